@@ -28,3 +28,13 @@ pub mod ChannelLate
 pub mod ChannelLulls
 pub mod ChannelEnded
 pub mod ChannelAfter
+pub mod SleeperTests
+pub mod SleeperCounts
+pub mod SleeperWeights
+pub mod SleeperKept
+pub mod SleeperQueue
+pub mod SleeperReached
+pub mod SleeperRounds
+pub mod SleeperLog
+pub mod SleeperProgress
+pub mod SleeperCases

@@ -5,3 +5,8 @@ pub mod ChannelSchedule
 pub mod ChannelExamples
 pub mod ChannelProgress
 pub mod ChannelRounds
+pub mod SleeperSides
+pub mod SleeperMoves
+pub mod SleeperSchedule
+pub mod SleeperProgress
+pub mod SleeperExamples

@@ -1,5 +1,7 @@
 //! Callers of the laws: each cites one law and concludes something in other words.
 
+pub mod sleepers;
+
 ghost use Rattle.std.specs.Prelude.{◌≡◌, ℕ, ◌<◌, ◌+◌, List, length, true};
 ghost use Rattle.fak_model.specs.Queue.{contents};
 ghost use Rattle.fak_core.specs.QueueMoves.{history_of};

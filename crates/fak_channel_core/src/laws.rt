@@ -4,3 +4,5 @@
 pub mod channel;
 pub mod examples;
 pub mod semaphore;
+pub mod sleeper_examples;
+pub mod sleepers;

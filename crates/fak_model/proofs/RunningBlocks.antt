@@ -1,5 +1,6 @@
 -- Whatever the steps are, a block of steps of several names of one view keeps what a running object shows.
-use Rattle.fak_model.proofs.Common.{All-cons, some, some-injective, some-ne-none, get_elem?, View, IsHistory, AreNamed, In, AreApart, sight, Foreign, Sees, ◌≡◌, ◌≢◌, ℕ, zero, suc, ◌+◌, ◌<◌, ◌≤◌, List, [], ◌∷◌, ◌++◌, set, append_assoc, refl, ap, sym, ◌∙◌, subst, arith, Some, reverse, All, State, Me, Act, stepped, homes_after, carried_after, common_steps, at_set}
+use Rattle.fak_model.proofs.Common.{All-cons, some, some-injective, some-ne-none, get_elem?, View, IsHistory, AreNamed, In, AreApart, sight, Foreign, Sees, ◌≡◌, ◌≢◌, ℕ, zero, suc, ◌+◌, ◌<◌, ◌≤◌, List, [], ◌∷◌, ◌++◌, set, append_assoc, refl, ap, sym, ◌∙◌, subst, arith, Option, Some, reverse, All, State, Me, Act, stepped, homes_after, carried_after, common_steps, at_set}
+use Rattle.fak_model.specs.declared.note.Note.{Note}
 use Rattle.fak_model.specs.Shown.{Object, total, IsShown, Leaves}
 use Rattle.fak_model.proofs.Reversing.{All-reverse}
 use Rattle.fak_model.proofs.RunningViews.{sees_all, sees_nothing, foreign_append}
@@ -21,7 +22,7 @@ pub each_set : {A : Type 0} (l : List A) (i : ℕ) (b : A) (F : ℕ → A → Ty
     → (j : ℕ) (u : A) → get_elem? (set l i b) j ≡ some u → F j u
 each_set {A} l i b F here rest j u e = grind (arith, common_steps, some, at_set)
 
-Some_injective : {A : Type 0} {a b : A} → Some a ≡ Some b → a ≡ b
+pub Some_injective : {A : Type 0} {a b : A} → Some a ≡ Some b → a ≡ b
 Some_injective e = cc
 
 -- ---- marks of these names
@@ -67,16 +68,26 @@ pub record BlockAdvances {M W C P S H : Type 0} (o : Object M W C P S H) (before
   pub stands : (n : ℕ) → In n names → o.StandsAt after n phase
   pub others : (k : ℕ) (p : P) → (In k names → ⊥) → o.StandsAt before k p → o.StandsAt after k p
 
+-- what each name of this view has noted
+abbrev pub AreNotedBy : {M P : Type 0} → (ℕ → List Note) → View M P → Type 0
+AreNotedBy notes v = (n : ℕ) → In n v.names → (l : List Note) → v.noted ≡ Some l → notes n ≡ l
+
+-- the notes of these names are those that a view knows, and the notes of other names are as they were
+pub record AddsNotes (names : List ℕ) (before notes : ℕ → List Note) (noted : Option (List Note)) : Type 0 where
+  pub own : (n : ℕ) → In n names → (l : List Note) → noted ≡ Some l → notes n ≡ l
+  pub others : (k : ℕ) → (In k names → ⊥) → notes k ≡ before k
+
 module _ {M W C P S H : Type 0} (o : Object M W C P S H) (s : State H (View M P)) (r : IsShown o s) (id : ℕ) (m : Me H (View M P)) (at : get_elem? s.views id ≡ some m.0) where
   -- the marks after the block have names of seats, too
-  named_after : (c : S) (new : List M) (phase : P) → BlockAdvances o r.core m.0.names c new phase → AreNamed o.rules o.seats (o.past_of c)
+  pub named_after : (c : S) (new : List M) (phase : P) → BlockAdvances o r.core m.0.names c new phase → AreNamed o.rules o.seats (o.past_of c)
   named_after c new phase step = subst (AreNamed o.rules o.seats) (sym step.past) (named_all o.rules.seat_of o.seats m.0.names new (o.past_of r.core) (r.below id m.0 at) step.own r.named)
 
   -- the seats take the steps of the block
-  block_goes : (c : S) (new : List M) (phase : P) → BlockAdvances o r.core m.0.names c new phase → (left : ℕ) → o.drawn_of c + left ≤ o.drawn_of r.core + m.0.left
-      → (t : State H (View M P)) → o.Encodes c t.words t.homes → t.views ≡ set s.views id (sight m.0.names (new ++ o.past_of r.core) phase left) → IsShown o t
-  block_goes c new phase step left few t encoded views =
-      let w = sight m.0.names (new ++ o.past_of r.core) phase left in
+  pub block_goes : (c : S) (new : List M) (phase : P) → BlockAdvances o r.core m.0.names c new phase → (left : ℕ) → o.drawn_of c + left ≤ o.drawn_of r.core + m.0.left
+      → (notes : ℕ → List Note) (noted : Option (List Note)) → AddsNotes m.0.names r.notes notes noted
+      → (t : State H (View M P)) → o.Encodes c notes t.words t.homes → t.views ≡ set s.views id (sight m.0.names noted (new ++ o.past_of r.core) phase left) → IsShown o t
+  block_goes c new phase step left few notes noted adds t encoded views =
+      let w = sight m.0.names noted (new ++ o.past_of r.core) phase left in
       let P' : List (View M P) → (ℕ → View M P → Type 0) → Type 0 = λ vs F. (j : ℕ) (u : View M P) → get_elem? vs j ≡ some u → F j u in
       let each : (F : ℕ → View M P → Type 0) → F id w → ((j : ℕ) (u : View M P) → j ≢ id → get_elem? s.views j ≡ some u → F j u) → P' t.views F =
       λ F mine rest. subst (λ (vs : List (View M P)). P' vs F) (sym views) (each_set s.views id w F mine rest) in
@@ -85,6 +96,7 @@ module _ {M W C P S H : Type 0} (o : Object M W C P S H) (s : State H (View M P)
       let Stands : View M P → Type 0 = λ u. (k : ℕ) → In k u.names → (p : P) → u.phase ≡ Some p → o.StandsAt c k p in
       record {
         core = c;
+        notes = notes;
         reached = step.reached;
         encoded = encoded;
         named = named_after c new phase step;
@@ -97,6 +109,7 @@ module _ {M W C P S H : Type 0} (o : Object M W C P S H) (s : State H (View M P)
             (λ k i p e. subst (o.StandsAt c k) (Some_injective e) (step.stands k i))
             (λ j u ne e k i p is. step.others k p (λ q. other j u ne e k i q) (r.stands j u e k i p is));
         once = each (λ _ u. AreApart u.names) (r.once id m.0 at) (λ j u _ e. r.once j u e);
+        noted = each (λ _ u. AreNotedBy notes u) adds.own (λ j u ne e k i l is. adds.others k (λ q. other j u ne e k i q) ∙ r.noted j u e k i l is);
         apart = λ i j x y ex ey k isx isy.
             let same_as : (i : ℕ) (x : View M P) → get_elem? t.views i ≡ some x → In k x.names → (v : View M P) × (get_elem? s.views i ≡ some v) × In k v.names =
             each (λ i x. In k x.names → (v : View M P) × (get_elem? s.views i ≡ some v) × In k v.names) (λ is. (m.0, at, is)) (λ j u _ e is. (u, e, is)) in
@@ -107,15 +120,19 @@ module _ {M W C P S H : Type 0} (o : Object M W C P S H) (s : State H (View M P)
             (omega (arith, total_set (λ (v : View M P). v.left) s.views id m.0 w at, r.few, few));
       }
 
+  -- the notes stay as they are
+  no_notes : AddsNotes m.0.names r.notes r.notes m.0.noted
+  no_notes = record { own = r.noted id m.0 at; others = λ k out. refl }
+
   -- a block of steps that one change of a word performs, with what that change shows
-  pub block_steps : AreLawful o → (c : S) (new : List M) (phase : P) → BlockAdvances o r.core m.0.names c new phase → (i w : ℕ) (a : Act H) → o.Encodes c (set s.words i w) (homes_after s.homes m.1 a)
+  pub block_steps : AreLawful o → (c : S) (new : List M) (phase : P) → BlockAdvances o r.core m.0.names c new phase → (i w : ℕ) (a : Act H) → o.Encodes c r.notes (set s.words i w) (homes_after s.homes m.1 a)
       → (left : ℕ) → o.drawn_of c + left ≤ o.drawn_of r.core + m.0.left → (tells : List M → Type 0) → tells (o.past_of r.core)
-      → let v = sight m.0.names (new ++ o.past_of r.core) phase left in
+      → let v = sight m.0.names m.0.noted (new ++ o.past_of r.core) phase left in
       IsShown o (stepped s i w id m.1 v a) × Leaves o m new phase left (carried_after m.1 a) tells (v, carried_after m.1 a)
   block_steps law c new phase step i w a encoded left few tells told =
-      let v = sight m.0.names (new ++ o.past_of r.core) phase left in
+      let v = sight m.0.names m.0.noted (new ++ o.past_of r.core) phase left in
       let t : State H (View M P) = stepped s i w id m.1 v a in (
-        block_goes c new phase step left few t encoded refl,
+        block_goes c new phase step left few r.notes m.0.noted no_notes t encoded refl,
         record {
           past = o.past_of r.core;
           sees = r.sees id m.0 at;

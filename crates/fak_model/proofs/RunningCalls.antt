@@ -7,10 +7,10 @@ use Rattle.fak_model.proofs.RunningViews.{sees_begins}
 -- ---- marks of a name
 
 module _ {M : Type 0} (seat_of : M → ℕ) (name : ℕ) where
-  marks_of-own : (m : M) (h : List M) → seat_of m ≡ name → marks_of seat_of name (m ∷ h) ≡ m ∷ marks_of seat_of name h
+  pub marks_of-own : (m : M) (h : List M) → seat_of m ≡ name → marks_of seat_of name (m ∷ h) ≡ m ∷ marks_of seat_of name h
   marks_of-own m h own = let t : (seat_of m == name) ≡ true = grind (arith, nat_tests) in rw t refl
 
-  marks_of-other : (m : M) (h : List M) → seat_of m ≢ name → marks_of seat_of name (m ∷ h) ≡ marks_of seat_of name h
+  pub marks_of-other : (m : M) (h : List M) → seat_of m ≢ name → marks_of seat_of name (m ∷ h) ≡ marks_of seat_of name h
   marks_of-other m h other = let t : (seat_of m == name) ≡ false = grind (arith, nat_tests) in rw t refl
 
   pub marks_of-foreign : (names : List ℕ) (h : List M) → In name names → Foreign seat_of names h → marks_of seat_of name h ≡ []

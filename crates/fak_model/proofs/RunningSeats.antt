@@ -1,9 +1,9 @@
 -- How a running object begins, and how its seats are split off, joined, and shown what they saw together.
-use Rattle.fak_model.proofs.Common.{some, some-injective, some-ne-none, get_elem?, View, In, AreApart, ◌≡◌, ◌≢◌, ◌⊎◌, ℕ, zero, suc, ◌+◌, ◌<◌, ◌≤◌, List, [], ◌∷◌, ◌++◌, length, set, map, refl, ap, sym, ◌∙◌, subst, arith, inl, inr, ⊎_elim, Some, Me, keeps, opening, Allows, Splits, Joins, Sees, opened, first_name, later_names, share_of, dealt, kept, joined, spent, settled, common_steps, div-le_self, set_else}
+use Rattle.fak_model.proofs.Common.{some, some-injective, some-ne-none, get_elem?, View, In, AreApart, ◌≡◌, ◌≢◌, ◌⊎◌, ℕ, zero, suc, ◌+◌, ◌<◌, ◌≤◌, List, [], ◌∷◌, ◌++◌, length, set, map, refl, ap, sym, ◌∙◌, subst, arith, inl, inr, ⊎_elim, Some, None, Me, keeps, opening, Allows, Splits, Joins, Sees, opened, first_name, later_names, share_of, dealt, kept, joined, spent, settled, common_steps, div-le_self, set_else}
 use Rattle.fak_model.specs.Shown.{Object, total, IsShown, Hears}
 use Rattle.fak_model.proofs.Seats.{in_either}
 use Rattle.fak_model.proofs.RunningViews.{sees_all, sees_nothing, sees_fewer, first_in, later_in, in_names_from, apart_from, apart_first, apart_later, apart_append, names_apart, sees_lawful, sees_named, Compared, compared}
-use Rattle.fak_model.proofs.RunningBlocks.{total_set, total_at, each_set, AreLawful}
+use Rattle.fak_model.proofs.RunningBlocks.{total_set, total_at, each_set, AreLawful, AreNotedBy, Some_injective}
 use Rattle.fak_model.proofs.RunningSteps.{set_found}
 
 -- ---- lists
@@ -23,9 +23,9 @@ total_append f (x ∷ l) k = omega (arith, total_append f l k)
 
 module _ {M W C P S H : Type 0} (o : Object M W C P S H) (resting : P) (left : ℕ) where
   -- the table at the opening shows the core state at the opening
-  pub starts : (c : S) → o.IsReached c → o.past_of c ≡ [] → ((n : ℕ) → n < o.seats → o.StandsAt c n resting) → (ws : List ℕ) (xs : List H) → o.Encodes c ws (map some xs)
+  pub starts : (c : S) → o.IsReached c → o.past_of c ≡ [] → ((n : ℕ) → n < o.seats → o.StandsAt c n resting) → (ws : List ℕ) (xs : List H) → o.Encodes c (λ n. []) ws (map some xs)
       → o.drawn_of c + left ≤ o.tickets → IsShown o (opening ws xs (opened resting o.seats left))
-  starts c reached none rest ws xs encoded few = grind (arith, common_steps, opened, some, sees_all, sees_nothing, in_names_from, apart_from, some-injective, some-ne-none)
+  starts c reached none rest ws xs encoded few = grind (arith, common_steps, opened, some, sees_all, sees_nothing, in_names_from, apart_from, some-injective, some-ne-none, Some_injective)
 
 -- ---- the place of a name, before and after
 
@@ -72,6 +72,7 @@ module _ {M W C P S H : Type 0} (o : Object M W C P S H) (id : ℕ) (v : View M 
       let share : share_of v ≤ v.left = div-le_self v.left (length v.names) in
       record {
         core = r.core;
+        notes = r.notes;
         reached = r.reached;
         encoded = r.encoded;
         named = r.named;
@@ -81,6 +82,7 @@ module _ {M W C P S H : Type 0} (o : Object M W C P S H) (id : ℕ) (v : View M 
         below = each Below r.below (λ n i. r.below id v at n (later_in n v.names i)) (λ n i. r.below id v at n (first_in n v.names i));
         stands = each Stands r.stands (λ n i. r.stands id v at n (later_in n v.names i)) (λ n i. r.stands id v at n (first_in n v.names i));
         once = each (λ u. AreApart u.names) r.once (apart_later v.names (r.once id v at)) (apart_first v.names);
+        noted = each (AreNotedBy r.notes) r.noted (λ n i. r.noted id v at n (later_in n v.names i)) (λ n i. r.noted id v at n (first_in n v.names i));
         apart = λ i j x y ex ey n isx isy.
             let a = from i x n (which i x ex) isx in
             let b = from j y n (which j y ey) isy in
@@ -118,6 +120,7 @@ module _ {M W C P S H : Type 0} (o : Object M W C P S H) (id : ℕ) (v : View M 
       let Left : View M P → ℕ = λ (u : View M P). u.left in
       record {
         core = r.core;
+        notes = r.notes;
         reached = r.reached;
         encoded = r.encoded;
         named = r.named;
@@ -128,6 +131,7 @@ module _ {M W C P S H : Type 0} (o : Object M W C P S H) (id : ℕ) (v : View M 
         stands = each (λ u. (n : ℕ) → In n u.names → (p : P) → u.phase ≡ Some p → o.StandsAt r.core n p) (λ n i. absurd i)
             (λ n i p e. elim (in_either n v.names w.names i) [ inl left ↦ r.stands id v at n left p e | inr right ↦ r.stands other w there' n right p (phases ∙ e) ]) r.stands;
         once = each (λ u. AreApart u.names) tt (apart_append v.names w.names (r.once id v at) (r.once other w there') (λ n i j. ne (r.apart other id w v there' at n j i))) r.once;
+        noted = each (AreNotedBy r.notes) (λ n i. absurd i) (λ n i l e. absurd (let none : None ≡ Some l = e in cc)) r.noted;
         apart = λ i j x y ex ey n isx isy.
             let a = from i x n (which i x ex) isx in
             let b = from j y n (which j y ey) isy in
@@ -154,14 +158,16 @@ module _ {M W C P S H : Type 0} (o : Object M W C P S H) (law : AreLawful o) whe
         tt,
         record {
           core = r.core;
+          notes = r.notes;
           reached = r.reached;
-          encoded = subst (λ (ws : List ℕ). o.Encodes r.core ws s.homes) (sym (set_found s.words i)) r.encoded;
+          encoded = subst (λ (ws : List ℕ). o.Encodes r.core r.notes ws s.homes) (sym (set_found s.words i)) r.encoded;
           named = r.named;
           sees = each (λ _ x. Sees o.rules.seat_of x.names x.seen (o.past_of r.core)) seen r.sees;
           told = each (λ _ x. Sees o.rules.seat_of x.told_names x.told x.seen) (sees_nothing o.rules.seat_of m.0.seen) r.told;
           below = each (λ _ x. (n : ℕ) → In n x.names → n < o.seats) (r.below id m.0 at) r.below;
           stands = each (λ _ x. (n : ℕ) → In n x.names → (p : P) → x.phase ≡ Some p → o.StandsAt r.core n p) (r.stands id m.0 at) r.stands;
           once = each (λ _ x. AreApart x.names) (r.once id m.0 at) r.once;
+          noted = each (λ _ x. AreNotedBy r.notes x) (r.noted id m.0 at) r.noted;
           apart = λ j k x y ex ey n isx isy.
               let a = was j x ex in
               let b = was k y ey in

@@ -9,6 +9,7 @@ pub mod large_fault;
 pub mod laws;
 pub mod limits;
 pub mod name_set;
+pub mod note;
 pub mod queue;
 pub mod room;
 pub mod seating;
@@ -25,6 +26,7 @@ pub use limits::{
     tested_large_seats,
 };
 pub use name_set::NameSet;
+pub use note::{Note, NoteKind, Sign};
 pub use queue::{Kind, Mark, Stage};
 pub use room::{RoomKind, RoomMark};
 pub use seating::{Both, Deal};

@@ -1,5 +1,6 @@
 //! What the seats of a running object know. It exists only in proofs.
 
+use crate::note::Note;
 use std::collections::LinkedList;
 
 /// What a seat, or several joined seats, know of a running object. It has a set of names. No value of this type is ever
@@ -18,4 +19,6 @@ pub struct View<M, P> {
     pub told: LinkedList<M>,
     /// The names of the view that had that shorter history.
     pub told_names: LinkedList<u64>,
+    /// What each of its names has noted, newest note first. A join forgets it.
+    pub noted: Option<LinkedList<Note>>,
 }

@@ -39,10 +39,10 @@ Some_same e = cc
 
 module _ {T : Type 0} (key : QueueLimits) (slots seats id n : ℕ) (m : QueueHolder T) (few : key.seats ≡ seats) (one : m.0.names ≡ n ∷ []) where
   -- what a step at this word tells, of the size and the seats of the queue
-  abbrev Permitted : ℕ → (ℕ → ℕ) → (ℕ → ℕ → ℕ → QueueHolder T → Type 0) → Type 0
+  abbrev pub Permitted : ℕ → (ℕ → ℕ) → (ℕ → ℕ → ℕ → QueueHolder T → Type 0) → Type 0
   Permitted i f then = Allows (IsShownQueue key) slots id m i f (λ found after. then slots seats found after)
 
-  of_step : (i : ℕ) (f : ℕ → ℕ) (then : ℕ → ℕ → ℕ → QueueHolder T → Type 0)
+  pub of_step : (i : ℕ) (f : ℕ → ℕ) (then : ℕ → ℕ → ℕ → QueueHolder T → Type 0)
       → ((s : QueueTable T) (r : IsShownQueue key s) (at : get_elem? s.views id ≡ some m.0) → key.size ≡ slots → Permits key s r id n m at one i f (then key.size key.seats)) → Permitted i f then
   of_step i f then all s r wide at small =
       let size : key.size ≡ slots = sym r.encoded.wide ∙ wide in
@@ -64,7 +64,7 @@ module _ {T : Type 0} (key : QueueLimits) (slots seats id n : ℕ) (m : QueueHol
   weaker i f then less gives all s r wide at small = let q = all s r wide at small in (q.0, q.1, q.2, q.3, gives (slice_index s.words i) (q.0, carried_after m.1 q.1) q.4)
 
   -- of whatever name the seat has
-  named : (i : ℕ) (f : ℕ → ℕ) (then : ℕ → ℕ → QueueHolder T → Type 0) → Allows (IsShownQueue key) slots id m i f (then n) → Allows (IsShownQueue key) slots id m i f (λ found after. Named m (λ k. then k found after))
+  pub named : (i : ℕ) (f : ℕ → ℕ) (then : ℕ → ℕ → QueueHolder T → Type 0) → Allows (IsShownQueue key) slots id m i f (then n) → Allows (IsShownQueue key) slots id m i f (λ found after. Named m (λ k. then k found after))
   named i f then = weaker i f (then n) (λ found after. Named m (λ k. then k found after)) (λ found after told k other. subst (λ z. then z found after) (first_same (sym one ∙ other)) told)
 
   pub tests_up_allowed : (item : Option T) (x : T) → item ≡ Some x → m.0.phase ≡ Some (Alike Idle) → Allows (IsShownQueue key) slots id m 16 (λ w. w) (λ found after. Named m (λ k. TestsUp slots seats k item m found after))

@@ -68,7 +68,7 @@ pub record Deals {T : Type 0} (bundle : BundleInfo (Mark T)) (table : TableId) (
 pub record Dealt {T : Type 0} (bundle : BundleInfo (Mark T)) (names : List ℕ) (all_left : ℕ) (seen : List (Mark T)) (others : List ℕ) (left : ℕ) (seats : List (SeatInfo (Mark T))) (me : QueueHolder T) : Type 0 where
   pub done : List ℕ
   pub are : done ++ others ≡ names
-  pub token : me ≡ (sight others seen phase.Idle left, [])
+  pub token : me ≡ (sight others me.0.noted seen phase.Idle left, [])
   pub names_are : map name_of seats ≡ done
   pub each : All (WasIn bundle) seats
   pub stint : sum_by stint_of seats + left ≡ all_left + tickets_of_all done (reverse seen)
@@ -83,18 +83,21 @@ module _ {T : Type 0} {bundle : BundleInfo (Mark T)} {table now : TableId} {seat
   share_is : left / many ≡ left / suc (length rest)
   share_is = ap (λ k. left / k) (many_is ∙ ap length are)
 
-  part_now : part ≡ (sight (name ∷ []) seen phase.Idle (left / many), [])
-  part_now = part_is ∙ (ap (λ (x : QueueHolder T). let y : QueueHolder T = (dealt x.0, []) in y) g.token ∙ ap (λ (k : ℕ). let y : QueueHolder T = (sight (name ∷ []) seen phase.Idle k, []) in y) (sym share_is))
+  part_now : part ≡ (sight (name ∷ []) me.0.noted seen phase.Idle (left / many), [])
+  part_now = part_is ∙ (ap (λ (x : QueueHolder T). let y : QueueHolder T = (dealt x.0, []) in y) g.token ∙ ap (λ (k : ℕ). let y : QueueHolder T = (sight (name ∷ []) me.0.noted seen phase.Idle k, []) in y) (sym share_is))
 
-  next_now : next ≡ (sight rest seen phase.Idle (left - left / many), [])
-  next_now = next_is ∙ (ap (λ (x : QueueHolder T). let y : QueueHolder T = (kept x.0, x.1) in y) g.token ∙ ap (λ (k : ℕ). let y : QueueHolder T = (sight rest seen phase.Idle (left - k), []) in y) (sym share_is))
+  next_now : next ≡ (sight rest me.0.noted seen phase.Idle (left - left / many), [])
+  next_now = next_is ∙ (ap (λ (x : QueueHolder T). let y : QueueHolder T = (kept x.0, x.1) in y) g.token ∙ ap (λ (k : ℕ). let y : QueueHolder T = (sight rest me.0.noted seen phase.Idle (left - k), []) in y) (sym share_is))
+
+  next_noted : next.0.noted ≡ me.0.noted
+  next_noted = ap (λ (x : QueueHolder T). x.0.noted) next_is
 
   there : In name names
   there = subst (In name) g.are (in_right name g.done (name ∷ rest) (inl refl))
 
   keeps : IsQueueSeat table.slots seats name phase.Idle (left / many) part
   keeps =
-      let here : IsQueueSeat table.slots seats name phase.Idle (left / many) (sight (name ∷ []) seen phase.Idle (left / many), []) = record {
+      let here : IsQueueSeat table.slots seats name phase.Idle (left / many) (sight (name ∷ []) me.0.noted seen phase.Idle (left / many), []) = record {
         token = record { me_is = refl; below = d.below name there; few = d.few; named = d.named };
         rests = subst (RestsAt phase.Idle) (sym (d.idle name there)) idle;
         lawful = d.lawful;
@@ -139,7 +142,7 @@ module _ {T : Type 0} {bundle : BundleInfo (Mark T)} {table now : TableId} {seat
   dealt_next = record {
     done = g.done ++ name ∷ [];
     are = append_assoc g.done (name ∷ []) rest ∙ g.are;
-    token = next_now;
+    token = next_now ∙ ap (λ known. let y : QueueHolder T = (sight rest known seen phase.Idle (left - left / many), []) in y) (sym next_noted);
     names_are = map-append name_of so_far (its ∷ []) ∙ ap (λ l. l ++ name ∷ []) g.names_are;
     each = All-push (WasIn bundle) so_far its g.each was_in;
     stint = stint;
@@ -183,7 +186,7 @@ module _ {T : Type 0} {bundle : BundleInfo (Mark T)} {table : TableId} {own size
   dealt_first = record {
     done = [];
     are = refl;
-    token = stays.rests.token.me_is ∙ (λ i. (sight ((stays.rests.names_are ∙ f.names_are) i) (stays.seen i) phase.Idle ((stays.rests.left_is ∙ f.left_is) i), []));
+    token = stays.rests.token.me_is ∙ (λ i. (sight ((stays.rests.names_are ∙ f.names_are) i) after.0.noted (stays.seen i) phase.Idle ((stays.rests.left_is ∙ f.left_is) i), []));
     names_are = refl;
     each = All-nil (WasIn bundle);
     stint = omega arith;

@@ -1,24 +1,25 @@
 -- The blocks that end insertions and deletions of a bundle, and that the table's rule allows them.
-use Rattle.fak_queue.proofs.Common.{QueueHolder, IsPost, StandsIn, queue_object, IsShownQueue, QueueLimits, AreWords, ◌≡◌, ◌⊎◌, ℕ, ◌+◌, ◌-◌, ◌%◌, ◌^◌, ◌≤◌, List, ◌++◌, length, slice_index, set, refl, sym, ◌∙◌, subst, inl, inr, arith, Some, Bool, pos, ◌+ℤ◌, true, false, ◌-ℤ◌, Each, some, get_elem?, In, Allows, keeps, carried_after, Phase, QueueState}
+use Rattle.fak_queue.proofs.Common.{from_itself, QueueHolder, IsPost, StandsIn, queue_object, IsShownQueue, QueueLimits, AreWords, ◌≡◌, ◌⊎◌, ℕ, ◌+◌, ◌-◌, ◌%◌, ◌^◌, ◌≤◌, List, ◌++◌, length, slice_index, set, refl, sym, ◌∙◌, subst, inl, inr, arith, Some, Bool, pos, ◌+ℤ◌, true, false, ◌-ℤ◌, Each, some, get_elem?, In, Allows, keeps, carried_after, Phase, QueueState}
 use Rattle.fak_model.specs.declared.queue.Kind.TheVariants as made
 use Rattle.fak_model.specs.Views.{sight as sees}
 use Rattle.fak_model.specs.Shown.{Leaves}
 use Rattle.fak_core.specs.declared.queue.phase.Phase.TheVariants.{EndDelete, Idle, EndInsert}
 use Rattle.fak_core.specs.QueueBlocks.{Posts, names_of, AreApart, Stand, all_at, marks_back}
-use Rattle.fak_core.proofs.QueueBlocks.{reached_block, names-at}
+use Rattle.fak_queue.proofs.ReachedFrom.{reached_block}
+use Rattle.fak_core.proofs.QueueBlocks.{names-at}
 use Rattle.fak_core.proofs.InsertionBlocks.{ends}
 use Rattle.fak_queue.specs.Bursts.{AllIn, EndedBurst}
 use Rattle.fak_queue.proofs.Stepping.{QueueTable}
 use Rattle.fak_queue.proofs.BurstPosts.{among_back, idle_all, out_at}
-use Rattle.fak_queue.proofs.BurstBlocks.{Permits, posted}
+use Rattle.fak_queue.proofs.BurstBlocks.{lows, Permits, posted}
 use Rattle.fak_core.proofs.DeletionBlocks.{ends_out}
 use Rattle.fak_core.specs.QueueBlocks.{Stand, block}
-use Rattle.fak_core.proofs.QueueBlocks.{reached_block}
+use Rattle.fak_queue.proofs.ReachedFrom.{reached_block}
 use Rattle.fak_core.proofs.InsertionBlocks.{ends}
 use Rattle.fak_queue.specs.Bundles.{SaysOf}
 use Rattle.fak_queue.specs.Bursts.{once_rest, EndedBurst, EndedOutBurst}
 use Rattle.fak_queue.proofs.BurstPosts.{in_or_not, moved_posts, idle_at, idle_all, out_at, among_back}
-use Rattle.fak_queue.proofs.BurstBlocks.{wide_block, lower_more, upper_less, posted, Permits}
+use Rattle.fak_queue.proofs.BurstBlocks.{lows, wide_block, lower_more, upper_less, posted, Permits}
 
 each_same : {T : Type 0} {a b : Posts T} → Some (Each a) ≡ Some (Each b) → a ≡ b
 each_same e = cc
@@ -50,19 +51,19 @@ module _ {T : Type 0} (key : QueueLimits) (s : QueueTable T) (r : IsShownQueue k
       let same = names-at {A = T} (λ (k : ℕ). Idle) items in
       let now = all_at {A = T} (λ (k : ℕ). Idle) items in
       let stood = posted key s r id m at all was says among (subst (λ l. AllIn l m.0.names) (sym names) inn) in
-      let reached = reached_block key.size r.core was r.reached.reached (subst AreApart (sym names) once) stood in
+      let reached = reached_block key.size r.core was (lows key s r id m at (names_of was) (subst (λ l. AllIn l m.0.names) (sym names) inn)) (from_itself key.size r.core) (subst AreApart (sym names) once) stood in
       let x = ends key.size r.core items once in
       let words = subst (λ k. AreWords key.size (r.core.upper) (r.core.lower +ℤ pos k) r.core.draws_in r.core.draws_out r.core.turn r.core.shut (set s.words 32 ((w + d) % 2 ^ 64))) d_is (lower_more key s r id m at d small) in
       let new = marks_back (λ k. made.EndIn) items in
       let then = once_rest rests (names_of items) all in
       let q = wide_block key s r id m at was now (names ∙ sym same) (subst (λ l. AllIn l m.0.names) (sym same) inn) stood (out_at key.size (λ k. EndInsert k) items (λ x i j. j)) (out_at key.size (λ (k : ℕ). Idle) items (λ x i j. j))
       (block key.size r.core was) new (r.core.upper) (r.core.lower +ℤ pos (length items)) r.core.draws_in r.core.draws_out reached x (among_back (λ k. made.EndIn) items m.0.names inn)
-      32 ((w + d) % 2 ^ 64) words m.0.left (omega arith) then (rests_now (block key.size r.core was) r.core items all m.0.names rests x.stand (λ n out. x.others n (λ k. out (subst (In n) same k))) were resting) (λ past. Unit {0}) tt in (
-        sees m.0.names (new ++ r.core.past) then m.0.left,
+      32 (omega arith, omega arith) ((w + d) % 2 ^ 64) words m.0.left (omega arith) then (rests_now (block key.size r.core was) r.core items all m.0.names rests x.stand (λ n out. x.others n (λ k. out (subst (In n) same k))) were resting) (λ past. Unit {0}) tt in (
+        sees m.0.names m.0.noted (new ++ r.core.past) then m.0.left,
         keeps,
         tt,
         q.0,
-        λ others e. subst (λ z. Leaves (queue_object key.size key.seats) m new (once_rest rests (names_of items) z) m.0.left m.1 (λ past. Unit {0}) (sees m.0.names (new ++ r.core.past) then m.0.left, m.1)) (each_same (sym says ∙ e)) q.1,
+        λ others e. subst (λ z. Leaves (queue_object key.size key.seats) m new (once_rest rests (names_of items) z) m.0.left m.1 (λ past. Unit {0}) (sees m.0.names m.0.noted (new ++ r.core.past) then m.0.left, m.1)) (each_same (sym says ∙ e)) q.1,
       )
 
   pub ends_out_burst : ((n : ℕ) (p : Phase T) → IsPost n p (all_at (λ k. EndDelete k) items) → IsPost n p all) → Permits key s r id m at 16 (λ w. (w + (2 ^ 64 - d)) % 2 ^ 64) (λ found after. EndedOutBurst key.size key.seats items rests m after)
@@ -73,19 +74,19 @@ module _ {T : Type 0} (key : QueueLimits) (s : QueueTable T) (r : IsShownQueue k
       let same = names-at {A = T} (λ (k : ℕ). Idle) items in
       let now = all_at {A = T} (λ (k : ℕ). Idle) items in
       let stood = posted key s r id m at all was says among (subst (λ l. AllIn l m.0.names) (sym names) inn) in
-      let reached = reached_block key.size r.core was r.reached.reached (subst AreApart (sym names) once) stood in
+      let reached = reached_block key.size r.core was (lows key s r id m at (names_of was) (subst (λ l. AllIn l m.0.names) (sym names) inn)) (from_itself key.size r.core) (subst AreApart (sym names) once) stood in
       let x = ends_out key.size r.core items once in
       let words = subst (λ k. AreWords key.size (r.core.upper -ℤ pos k) (r.core.lower) r.core.draws_in r.core.draws_out r.core.turn r.core.shut (set s.words 16 ((w + (2 ^ 64 - d)) % 2 ^ 64))) d_is (upper_less key s r id m at d small) in
       let new = marks_back (λ k. made.EndOut) items in
       let then = once_rest rests (names_of items) all in
       let q = wide_block key s r id m at was now (names ∙ sym same) (subst (λ l. AllIn l m.0.names) (sym same) inn) stood (out_at key.size (λ k. EndDelete k) items (λ x i j. j)) (out_at key.size (λ (k : ℕ). Idle) items (λ x i j. j))
       (block key.size r.core was) new (r.core.upper -ℤ pos (length items)) (r.core.lower) r.core.draws_in r.core.draws_out reached x (among_back (λ k. made.EndOut) items m.0.names inn)
-      16 ((w + (2 ^ 64 - d)) % 2 ^ 64) words m.0.left (omega arith) then (rests_now (block key.size r.core was) r.core items all m.0.names rests x.stand (λ n out. x.others n (λ k. out (subst (In n) same k))) were resting) (λ past. Unit {0}) tt in (
-        sees m.0.names (new ++ r.core.past) then m.0.left,
+      16 (omega arith, omega arith) ((w + (2 ^ 64 - d)) % 2 ^ 64) words m.0.left (omega arith) then (rests_now (block key.size r.core was) r.core items all m.0.names rests x.stand (λ n out. x.others n (λ k. out (subst (In n) same k))) were resting) (λ past. Unit {0}) tt in (
+        sees m.0.names m.0.noted (new ++ r.core.past) then m.0.left,
         keeps,
         tt,
         q.0,
-        λ others e. subst (λ z. Leaves (queue_object key.size key.seats) m new (once_rest rests (names_of items) z) m.0.left m.1 (λ past. Unit {0}) (sees m.0.names (new ++ r.core.past) then m.0.left, m.1)) (each_same (sym says ∙ e)) q.1,
+        λ others e. subst (λ z. Leaves (queue_object key.size key.seats) m new (once_rest rests (names_of items) z) m.0.left m.1 (λ past. Unit {0}) (sees m.0.names m.0.noted (new ++ r.core.past) then m.0.left, m.1)) (each_same (sym says ∙ e)) q.1,
       )
 
 module _ {T : Type 0} (key : QueueLimits) (slots seats id : ℕ) (m : QueueHolder T) (few : key.seats ≡ seats) (items : List (ℕ × ℕ)) (all : Posts T) (says : m.0.phase ≡ Some (Each all)) (once : AreApart (names_of items)) (inn : AllIn (names_of items) m.0.names)

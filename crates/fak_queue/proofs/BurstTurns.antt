@@ -5,7 +5,7 @@ use Rattle.fak_model.proofs.RunningBlocks.{AreAmong, BlockAdvances, block_steps}
 use Rattle.fak_core.specs.declared.queue.phase.Phase.TheVariants.{TurnIn, StoreItem, SetFull, EndInsert, TurnOut, LoadItem, SetFree, EndDelete}
 use Rattle.fak_core.specs.QueueBlocks.{Posts}
 use Rattle.fak_queue.specs.Bursts.{TurnedOutBurst, FreedBurst, post_to, TurnedBurst, FilledBurst}
-use Rattle.fak_queue.proofs.Common.{QueueHolder, IsPost, queue_object, IsShownQueue, QueueLimits, AreWords, IsEncoded, ◌≡◌, ◌≢◌, ℕ, ◌+◌, ◌%◌, ◌<◌, List, [], ◌∷◌, ◌++◌, slice_index, set, refl, sym, ap, ◌∙◌, subst, inl, inr, arith, Option, Some, reverse, true_or_false, ◌*◌, ◌/◌, ◌==◌, takes, gives, homes_after, length-set, mod-lt, None, has_back, stage, Putting, shown, waits_fill, nat_tests, IsAtHome, at_here, at_else, with_at, with_phase, moved, move_from, moves, if_true, if_false, Each, WaitsIn, WaitsOut, mark, QueueMove, Getting, waits_take, loads_put, item_of, item_at, items_put, item_there, getting_below, contents_bounded, some, none, get_elem?, In, keeps, Mark, Phase, QueueState, InCell, IsReached, kept}
+use Rattle.fak_queue.proofs.Common.{IsReachedFrom, from_itself, reached_after, sleepers_after, QueueHolder, IsPost, queue_object, IsShownQueue, QueueLimits, AreWords, IsEncoded, ◌≡◌, ◌≢◌, ℕ, ◌+◌, ◌%◌, ◌<◌, List, [], ◌∷◌, ◌++◌, slice_index, set, refl, sym, ap, ◌∙◌, subst, inl, inr, arith, Option, Some, reverse, true_or_false, ◌*◌, ◌/◌, ◌==◌, takes, gives, homes_after, length-set, mod-lt, None, has_back, stage, Putting, shown, waits_fill, nat_tests, IsAtHome, at_here, at_else, with_at, with_phase, moved, move_from, moves, if_true, if_false, Each, WaitsIn, WaitsOut, mark, QueueMove, Getting, waits_take, loads_put, item_of, item_at, items_put, item_there, getting_below, contents_bounded, some, none, get_elem?, In, keeps, Mark, Phase, QueueState, InCell, kept}
 use Rattle.fak_queue.proofs.WordWrites.{words_same, words_turn}
 use Rattle.fak_queue.proofs.DeletionSteps.{item_past}
 use Rattle.fak_queue.proofs.Slots.{takes_slot, gives_slot, slot_there}
@@ -22,12 +22,12 @@ module _ {T : Type 0} (key : QueueLimits) (s : QueueTable T) (r : IsShownQueue k
     stands_here p e = r.stands id m.0 at n is_mine (Each all) says p e
 
     -- its step to q, while the other names stay as they are
-    name_step : (q : Phase T) → (c : QueueState T) → IsReached key.size c → (new : List (Mark T)) → c.past ≡ new ++ r.core.past → AreAmong (λ (w : Mark T). w.seat) m.0.names new → c.phase n ≡ q
+    name_step : (q : Phase T) → (c : QueueState T) → IsReachedFrom key.seats key.size r.core c → (new : List (Mark T)) → c.past ≡ new ++ r.core.past → AreAmong (λ (w : Mark T). w.seat) m.0.names new → c.phase n ≡ q
         → ((t : ℕ) → t ≢ n → c.phase t ≡ r.core.phase t) → BlockAdvances (queue_object key.size key.seats) r.core m.0.names c new (Each (post_to n q all))
     name_step q c reached new past own here others =
         let low = r.below id m.0 at n is_mine in
         record {
-          reached = record { reached = reached; beyond = λ t far. others t (λ e. omega (arith, low, far, e)) ∙ r.reached.beyond t far };
+          reached = record { reached = reached_after key.size r.core c r.reached.reached reached; beyond = λ t far. others t (λ e. omega (arith, low, far, e)) ∙ r.reached.beyond t far };
           past = past;
           own = own;
           stands = λ t i w o. elim (moved_post n q all t w o) [
@@ -57,7 +57,7 @@ module _ {T : Type 0} (key : QueueLimits) (s : QueueTable T) (r : IsShownQueue k
     apart_twice p q t ne = at_else (with_at r.core.phase n p) n t q ne ∙ at_else r.core.phase n t p ne
 
     abbrev Leads : QueueMove T → Type 0
-    Leads o = IsReached key.size (moved r.core n o)
+    Leads o = IsReachedFrom key.seats key.size r.core (moved r.core n o)
 
     near_of : (k : ℕ) → k % key.size < key.size
     near_of k = mod-lt k r.encoded.some_cell
@@ -71,7 +71,7 @@ module _ {T : Type 0} (key : QueueLimits) (s : QueueTable T) (r : IsShownQueue k
         let w = slice_index s.words (80 + i) in
         let here = stands_here (TurnIn k x) e in
         let law = queue_law {T = T} key.size key.seats r.encoded.some_cell in
-        let reached_next = moves key.size r.core r.reached.reached n (TurnIn k x) here in
+        let reached_next = moves key.size r.core (from_itself key.size r.core) n (r.below id m.0 at n is_mine) (TurnIn k x) here in
         let out : (j : ℕ) → InCell key.size (r.core.phase n) j → ⊥ = λ j a. subst (λ p. InCell key.size p j) here a in
         let same = words_same key.size r.core.upper r.core.lower r.core.draws_in r.core.draws_out r.core.turn r.core.shut s.words r.encoded.words_are (80 + i) in
         elim (true_or_false (r.core.turn i == 2 * (k / key.size))) [
@@ -83,9 +83,10 @@ module _ {T : Type 0} (key : QueueLimits) (s : QueueTable T) (r : IsShownQueue k
               let there : c.phase n ≡ p = at_here r.core.phase n p in
               let inside : InCell key.size (c.phase n) i = subst (λ p. InCell key.size p i) (sym there) refl in
               let only : (j : ℕ) → InCell key.size (c.phase n) j → j ≡ i = λ j a. sym (subst (λ p. InCell key.size p j) there a) in
-              let home = slot_there key.size n r.core s.homes r.encoded.wide r.encoded.slots_are c (apart_once p) r.encoded.some_cell reached_here out i (near_of k) inside in
+              let home = slot_there key.size n r.core s.homes r.encoded.wide r.encoded.slots_are c (apart_once p) r.encoded.some_cell (reached_after key.size r.core c r.reached.reached reached_here) out i (near_of k) inside in
               let step = name_step p c reached_here [] refl tt there (apart_once p) in
-              let shows : IsEncoded key.size key.seats c (set s.words (80 + i) w) (set s.homes i none) = record {
+              let shows : IsEncoded key.size key.seats c r.notes (set s.words (80 + i) w) (set s.homes i none) = record {
+                sleepers = sleepers_after key.seats key.size r.core c r.notes s.words (80 + i) w r.encoded.sleepers reached_here (omega arith) (let h = near_of k in omega arith);
                 some_cell = r.encoded.some_cell;
                 few_cells = r.encoded.few_cells;
                 few_seats = r.encoded.few_seats;
@@ -94,7 +95,7 @@ module _ {T : Type 0} (key : QueueLimits) (s : QueueTable T) (r : IsShownQueue k
                 slots_are = takes_slot key.size n r.core s.homes r.encoded.wide r.encoded.slots_are c (apart_once p) refl refl out i (near_of k) inside only;
               } in
               let q = block_steps (queue_object key.size key.seats) s r id m at law c [] (Each (post_to n p all)) step (80 + i) w (takes i None) shows m.0.left (omega arith) (λ past. Unit {0}) tt in
-              (sees m.0.names r.core.past (Each (post_to n p all)) m.0.left, takes i None, home.even (k / key.size) turn, q.0, record { hit = λ _. q.1; miss = λ ne. absurd (ne ((turn_at k) ∙ turn)) }))
+              (sees m.0.names m.0.noted r.core.past (Each (post_to n p all)) m.0.left, takes i None, home.even (k / key.size) turn, q.0, record { hit = λ _. q.1; miss = λ ne. absurd (ne ((turn_at k) ∙ turn)) }))
           | inr far ↦ (
               let turn : r.core.turn i ≢ 2 * (k / key.size) = λ q. absurd (grind (arith, nat_tests)) in
               let p : Phase T = TurnIn k x in
@@ -105,7 +106,8 @@ module _ {T : Type 0} (key : QueueLimits) (s : QueueTable T) (r : IsShownQueue k
               let waits : WaitsIn key.size key.seats n k x r.core.past = record { putting = putting; earlier = wait.0; round = wait.1; untaken = λ h. wait.2 (has_back (made.Take wait.0) r.core.past h) } in
               let there : c.phase n ≡ p = at_here r.core.phase n p in
               let step = name_step p c reached_here [] refl tt there (apart_once p) in
-              let shows : IsEncoded key.size key.seats c (set s.words (80 + i) w) s.homes = record {
+              let shows : IsEncoded key.size key.seats c r.notes (set s.words (80 + i) w) s.homes = record {
+                sleepers = sleepers_after key.seats key.size r.core c r.notes s.words (80 + i) w r.encoded.sleepers reached_here (omega arith) (let h = near_of k in omega arith);
                 some_cell = r.encoded.some_cell;
                 few_cells = r.encoded.few_cells;
                 few_seats = r.encoded.few_seats;
@@ -117,7 +119,7 @@ module _ {T : Type 0} (key : QueueLimits) (s : QueueTable T) (r : IsShownQueue k
                     (λ t z. apart_once p t (λ f. z (inl f))) j (r.encoded.slots_are j lt);
               } in
               let q = block_steps (queue_object key.size key.seats) s r id m at law c [] (Each (post_to n p all)) step (80 + i) w keeps shows m.0.left (omega arith) (WaitsIn key.size key.seats n k x) waits in
-              (sees m.0.names r.core.past (Each (post_to n p all)) m.0.left, keeps, tt, q.0, record { hit = λ h. absurd (turn (sym (turn_at k) ∙ h)); miss = λ _. q.1 }))
+              (sees m.0.names m.0.noted r.core.past (Each (post_to n p all)) m.0.left, keeps, tt, q.0, record { hit = λ h. absurd (turn (sym (turn_at k) ∙ h)); miss = λ _. q.1 }))
         ]
 
     pub fills_burst : (k : ℕ) (x : T) (v : ℕ) (tl : List (ℕ × Option T)) → IsPost n (StoreItem k x) all → m.1 ≡ (k % key.size, Some x) ∷ tl → v ≡ 2 * (k / key.size) + 1
@@ -126,9 +128,9 @@ module _ {T : Type 0} (key : QueueLimits) (s : QueueTable T) (r : IsShownQueue k
         let i = k % key.size in
         let here = stands_here (StoreItem k x) e in
         let law = queue_law {T = T} key.size key.seats r.encoded.some_cell in
-        let reached_begun = moves key.size r.core r.reached.reached n (StoreItem k x) here in
+        let reached_begun = moves key.size r.core (from_itself key.size r.core) n (r.below id m.0 at n is_mine) (StoreItem k x) here in
         let c = record (with_phase r.core n (SetFull k x)) { cell = with_at r.core.cell i (Some x) } in
-        let reached_next = moves key.size c reached_begun n (SetFull k x) (at_here r.core.phase n (SetFull k x)) in
+        let reached_next = moves key.size c reached_begun n (r.below id m.0 at n is_mine) (SetFull k x) (at_here r.core.phase n (SetFull k x)) in
         let d : QueueState T = move_from key.size c n (SetFull k x) in
         let turn' = with_at r.core.turn i (2 * (k / key.size) + 1) in
         let cell' = with_at r.core.cell i (Some x) in
@@ -146,7 +148,8 @@ module _ {T : Type 0} (key : QueueLimits) (s : QueueTable T) (r : IsShownQueue k
         (words_turn key.size r.core.upper r.core.lower r.core.draws_in r.core.draws_out r.core.turn r.core.shut s.words r.encoded.words_are i (2 * (k / key.size) + 1) (near_of k)) in
         let others = apart_twice (SetFull k x) p in
         let step = name_step p d reached_next new refl (is_mine, tt) there others in
-        let shows : IsEncoded key.size key.seats d (set s.words (80 + i) v) (set s.homes i (some (Some x))) = record {
+        let shows : IsEncoded key.size key.seats d r.notes (set s.words (80 + i) v) (set s.homes i (some (Some x))) = record {
+          sleepers = sleepers_after key.seats key.size r.core d r.notes s.words (80 + i) v r.encoded.sleepers reached_next (omega arith) (let h = near_of k in omega arith);
           some_cell = r.encoded.some_cell;
           few_cells = r.encoded.few_cells;
           few_seats = r.encoded.few_seats;
@@ -155,9 +158,9 @@ module _ {T : Type 0} (key : QueueLimits) (s : QueueTable T) (r : IsShownQueue k
           slots_are = gives_slot key.size n r.core s.homes r.encoded.wide r.encoded.slots_are d others r.encoded.some_cell r.reached.reached i (near_of k)
               (λ j ne. (at_else r.core.turn i j (2 * (k / key.size) + 1) ne, at_else r.core.cell i j (Some x) ne)) inside only nowhere_then (Some x) home;
         } in
-        let gives_back : IsEncoded key.size key.seats d (set s.words (80 + i) v) (homes_after s.homes m.1 gives) = subst (λ l. IsEncoded key.size key.seats d (set s.words (80 + i) v) (homes_after s.homes l gives)) (sym held) shows in
+        let gives_back : IsEncoded key.size key.seats d r.notes (set s.words (80 + i) v) (homes_after s.homes m.1 gives) = subst (λ l. IsEncoded key.size key.seats d r.notes (set s.words (80 + i) v) (homes_after s.homes l gives)) (sym held) shows in
         let q = block_steps (queue_object key.size key.seats) s r id m at law d new (Each (post_to n p all)) step (80 + i) v gives gives_back m.0.left (omega arith) (λ past. Unit {0}) tt in
-        (sees m.0.names (new ++ r.core.past) (Each (post_to n p all)) m.0.left, gives, tt, q.0, q.1)
+        (sees m.0.names m.0.noted (new ++ r.core.past) (Each (post_to n p all)) m.0.left, gives, tt, q.0, q.1)
 
     pub turns_out_burst : (k : ℕ) → IsPost n (TurnOut k) all → Permits key s r id m at (80 + k % key.size) (λ w. w) (TurnedOutBurst key.size key.seats n k all m)
     turns_out_burst k e =
@@ -165,7 +168,7 @@ module _ {T : Type 0} (key : QueueLimits) (s : QueueTable T) (r : IsShownQueue k
         let w = slice_index s.words (80 + i) in
         let here = stands_here (TurnOut k) e in
         let law = queue_law {T = T} key.size key.seats r.encoded.some_cell in
-        let reached_next = moves key.size r.core r.reached.reached n (TurnOut k) here in
+        let reached_next = moves key.size r.core (from_itself key.size r.core) n (r.below id m.0 at n is_mine) (TurnOut k) here in
         let out : (j : ℕ) → InCell key.size (r.core.phase n) j → ⊥ = λ j a. subst (λ p. InCell key.size p j) here a in
         let same = words_same key.size r.core.upper r.core.lower r.core.draws_in r.core.draws_out r.core.turn r.core.shut s.words r.encoded.words_are (80 + i) in
         let getting : stage r.core.past n ≡ Getting k = sym ((K key s r id m at).phases n) ∙ ap shown here in
@@ -178,13 +181,14 @@ module _ {T : Type 0} (key : QueueLimits) (s : QueueTable T) (r : IsShownQueue k
               let there : c.phase n ≡ p = at_here r.core.phase n p in
               let inside : InCell key.size (c.phase n) i = subst (λ p. InCell key.size p i) (sym there) refl in
               let only : (j : ℕ) → InCell key.size (c.phase n) j → j ≡ i = λ j a. sym (subst (λ p. InCell key.size p j) there a) in
-              let home = slot_there key.size n r.core s.homes r.encoded.wide r.encoded.slots_are c (apart_once p) r.encoded.some_cell reached_here out i (near_of k) inside in
-              let loads : r.core.cell i ≡ item_of r.core.past k = loads_put key.size c n k (kept key.size c reached_here r.encoded.some_cell) there in
+              let home = slot_there key.size n r.core s.homes r.encoded.wide r.encoded.slots_are c (apart_once p) r.encoded.some_cell (reached_after key.size r.core c r.reached.reached reached_here) out i (near_of k) inside in
+              let loads : r.core.cell i ≡ item_of r.core.past k = loads_put key.size c n k (kept key.size c (reached_after key.size r.core c r.reached.reached reached_here) r.encoded.some_cell) there in
               let below = getting_below r.core.past n k getting in
               let counts = (contents_bounded key.size r.core.past (K key s r id m at).legal).0 in
               let it = item_there r.core.past k (omega (arith, below, counts)) in
               let step = name_step p c reached_here [] refl tt there (apart_once p) in
-              let shows : IsEncoded key.size key.seats c (set s.words (80 + i) w) (set s.homes i none) = record {
+              let shows : IsEncoded key.size key.seats c r.notes (set s.words (80 + i) w) (set s.homes i none) = record {
+                sleepers = sleepers_after key.seats key.size r.core c r.notes s.words (80 + i) w r.encoded.sleepers reached_here (omega arith) (let h = near_of k in omega arith);
                 some_cell = r.encoded.some_cell;
                 few_cells = r.encoded.few_cells;
                 few_seats = r.encoded.few_seats;
@@ -193,7 +197,7 @@ module _ {T : Type 0} (key : QueueLimits) (s : QueueTable T) (r : IsShownQueue k
                 slots_are = takes_slot key.size n r.core s.homes r.encoded.wide r.encoded.slots_are c (apart_once p) refl refl out i (near_of k) inside only;
               } in
               let q = block_steps (queue_object key.size key.seats) s r id m at law c [] (Each (post_to n p all)) step (80 + i) w (takes i (Some it.0)) shows m.0.left (omega arith) (λ past. item_at (items_put (reverse past)) k ≡ Some it.0) (item_past r.core.past k ∙ it.1) in (
-                sees m.0.names r.core.past (Each (post_to n p all)) m.0.left,
+                sees m.0.names m.0.noted r.core.past (Each (post_to n p all)) m.0.left,
                 takes i (Some it.0),
                 home.odd (k / key.size) turn ∙ ap (λ (v : Option T). some (some v)) (loads ∙ it.1),
                 q.0,
@@ -208,7 +212,8 @@ module _ {T : Type 0} (key : QueueLimits) (s : QueueTable T) (r : IsShownQueue k
               let waits : WaitsOut key.size key.seats n k r.core.past = record { getting = getting; unfilled = λ h. wait (has_back (made.Fill k) r.core.past h) } in
               let there : c.phase n ≡ p = at_here r.core.phase n p in
               let step = name_step p c reached_here [] refl tt there (apart_once p) in
-              let shows : IsEncoded key.size key.seats c (set s.words (80 + i) w) s.homes = record {
+              let shows : IsEncoded key.size key.seats c r.notes (set s.words (80 + i) w) s.homes = record {
+                sleepers = sleepers_after key.seats key.size r.core c r.notes s.words (80 + i) w r.encoded.sleepers reached_here (omega arith) (let h = near_of k in omega arith);
                 some_cell = r.encoded.some_cell;
                 few_cells = r.encoded.few_cells;
                 few_seats = r.encoded.few_seats;
@@ -220,7 +225,7 @@ module _ {T : Type 0} (key : QueueLimits) (s : QueueTable T) (r : IsShownQueue k
                     (λ t z. apart_once p t (λ f. z (inl f))) j (r.encoded.slots_are j lt);
               } in
               let q = block_steps (queue_object key.size key.seats) s r id m at law c [] (Each (post_to n p all)) step (80 + i) w keeps shows m.0.left (omega arith) (WaitsOut key.size key.seats n k) waits in
-              (sees m.0.names r.core.past (Each (post_to n p all)) m.0.left, keeps, tt, q.0, record { hit = λ h. absurd (turn (sym (turn_at k) ∙ h)); miss = λ _. q.1 }))
+              (sees m.0.names m.0.noted r.core.past (Each (post_to n p all)) m.0.left, keeps, tt, q.0, record { hit = λ h. absurd (turn (sym (turn_at k) ∙ h)); miss = λ _. q.1 }))
         ]
 
     pub frees_burst : (k v : ℕ) (tl : List (ℕ × Option T)) → IsPost n (LoadItem k) all → m.1 ≡ (k % key.size, None) ∷ tl → v ≡ 2 * (k / key.size) + 2
@@ -229,9 +234,9 @@ module _ {T : Type 0} (key : QueueLimits) (s : QueueTable T) (r : IsShownQueue k
         let i = k % key.size in
         let here = stands_here (LoadItem k) e in
         let law = queue_law {T = T} key.size key.seats r.encoded.some_cell in
-        let reached_begun = moves key.size r.core r.reached.reached n (LoadItem k) here in
+        let reached_begun = moves key.size r.core (from_itself key.size r.core) n (r.below id m.0 at n is_mine) (LoadItem k) here in
         let c = with_phase r.core n (SetFree k) in
-        let reached_next = moves key.size c reached_begun n (SetFree k) (at_here r.core.phase n (SetFree k)) in
+        let reached_next = moves key.size c reached_begun n (r.below id m.0 at n is_mine) (SetFree k) (at_here r.core.phase n (SetFree k)) in
         let d : QueueState T = move_from key.size c n (SetFree k) in
         let turn' = with_at r.core.turn i (2 * (k / key.size) + 2) in
         let new : List (Mark T) = mark n (made.Take k) ∷ [] in
@@ -248,7 +253,8 @@ module _ {T : Type 0} (key : QueueLimits) (s : QueueTable T) (r : IsShownQueue k
         (words_turn key.size r.core.upper r.core.lower r.core.draws_in r.core.draws_out r.core.turn r.core.shut s.words r.encoded.words_are i (2 * (k / key.size) + 2) (near_of k)) in
         let others = apart_twice (SetFree k) p in
         let step = name_step p d reached_next new refl (is_mine, tt) there others in
-        let shows : IsEncoded key.size key.seats d (set s.words (80 + i) v) (set s.homes i (some None)) = record {
+        let shows : IsEncoded key.size key.seats d r.notes (set s.words (80 + i) v) (set s.homes i (some None)) = record {
+          sleepers = sleepers_after key.seats key.size r.core d r.notes s.words (80 + i) v r.encoded.sleepers reached_next (omega arith) (let h = near_of k in omega arith);
           some_cell = r.encoded.some_cell;
           few_cells = r.encoded.few_cells;
           few_seats = r.encoded.few_seats;
@@ -257,6 +263,6 @@ module _ {T : Type 0} (key : QueueLimits) (s : QueueTable T) (r : IsShownQueue k
           slots_are = gives_slot key.size n r.core s.homes r.encoded.wide r.encoded.slots_are d others r.encoded.some_cell r.reached.reached i (near_of k)
               (λ j ne. (at_else r.core.turn i j (2 * (k / key.size) + 2) ne, refl)) inside only nowhere_then None home;
         } in
-        let gives_back : IsEncoded key.size key.seats d (set s.words (80 + i) v) (homes_after s.homes m.1 gives) = subst (λ l. IsEncoded key.size key.seats d (set s.words (80 + i) v) (homes_after s.homes l gives)) (sym held) shows in
+        let gives_back : IsEncoded key.size key.seats d r.notes (set s.words (80 + i) v) (homes_after s.homes m.1 gives) = subst (λ l. IsEncoded key.size key.seats d r.notes (set s.words (80 + i) v) (homes_after s.homes l gives)) (sym held) shows in
         let q = block_steps (queue_object key.size key.seats) s r id m at law d new (Each (post_to n p all)) step (80 + i) v gives gives_back m.0.left (omega arith) (λ past. Unit {0}) tt in
-        (sees m.0.names (new ++ r.core.past) (Each (post_to n p all)) m.0.left, gives, tt, q.0, q.1)
+        (sees m.0.names m.0.noted (new ++ r.core.past) (Each (post_to n p all)) m.0.left, gives, tt, q.0, q.1)

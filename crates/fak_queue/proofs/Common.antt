@@ -5,7 +5,7 @@ pub use Rattle.atomic_table.specs.Table.{Allows, carried_after, State, Final, Se
 pub use Rattle.fak_core.proofs.Common.{QueueState, with_at, with_phase, moved, InCell, IsReached, AreIdleFrom, move_from}
 pub use Rattle.fak_core.proofs.QueueKept.{IsKept, shown}
 pub use Rattle.fak_core.proofs.QueueOwners.{in_cell, waits_take, waits_fill, alone}
-pub use Rattle.fak_core.proofs.QueueReached.{kept, true_or_false, if_true, if_false, moves, deletes, loads_put, draws_put, inserts, closes, is_reached, legal_history}
+pub use Rattle.fak_core.proofs.QueueReached.{kept, true_or_false, if_true, if_false, loads_put, draws_put, is_reached, legal_history}
 pub use Rattle.fak_core.proofs.QueueTurns.{take_turn, le_or_lt, at_here, at_else, by_place}
 pub use Rattle.fak_core.specs.declared.queue.phase.Phase.TheVariants.{TurnIn, TurnOut, StoreItem, EndInsert, LoadItem, EndDelete}
 pub use Rattle.fak_core.specs.declared.queue.phase.Phase.{Phase}
@@ -48,3 +48,5 @@ pub use Rattle.std.proofs.lemmas.Grind.{common_steps}
 pub use Rattle.std.proofs.lemmas.List.Concat.{flat_map-append}
 pub use Rattle.std.specs.Prelude.{Ok, Err}
 pub use Rattle.std.specs.Slots.{slots_filled, slots_len, slots_items, slots_counts}
+pub use Rattle.fak_queue.proofs.ReachedFrom.{IsReachedFrom, from_itself, reached_after, moves, inserts, deletes, closes}
+pub use Rattle.fak_queue.proofs.Sleepers.{sleepers_after}

@@ -1,3 +1,6 @@
+pub mod ReachedFrom
+pub mod Accounts
+pub mod Sleepers
 pub mod Common
 pub mod WordWrites
 pub mod Slots
@@ -6,6 +9,11 @@ pub mod StepTokens
 pub mod InsertionSteps
 pub mod DeletionSteps
 pub mod Allowed
+pub mod SleeperNotes
+pub mod BitSteps
+pub mod BitAllowed
+pub mod SleeperLaws
+pub mod SeatAccounts
 pub mod States
 pub mod PartSteps
 pub mod Admissions

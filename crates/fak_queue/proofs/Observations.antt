@@ -15,13 +15,13 @@ use Rattle.fak_queue.proofs.SeatCalls.{left_same, seat_after, state_after, state
 -- ---- what a word says
 
 -- a word says one count
-one_count : (b c : Bool) (w : ℕ) (u v : ℤ) → b ≡ c → pos w ≡ pos (shut_part b + bias) +ℤ u → pos w ≡ pos (shut_part c + bias) +ℤ v → u ≡ v
+pub one_count : (b c : Bool) (w : ℕ) (u v : ℤ) → b ≡ c → pos w ≡ pos (shut_part b + bias) +ℤ u → pos w ≡ pos (shut_part c + bias) +ℤ v → u ≡ v
 one_count b c w u v same e f = let g = subst (λ z. pos w ≡ pos (shut_part z + bias) +ℤ u) same e in omega (arith, ints, g, f)
 
 low_count : (w : ℕ) (u v : ℤ) → pos w ≡ pos bias +ℤ u → pos w ≡ pos bias +ℤ v → u ≡ v
 low_count w u v e f = omega (arith, ints, e, f)
 
-is_flag : {A : Type 0} (b c : Bool) → IsTrue b ↔ A → (c ≡ true → A) → (c ≡ false → A → ⊥) → b ≡ c
+pub is_flag : {A : Type 0} (b c : Bool) → IsTrue b ↔ A → (c ≡ true → A) → (c ≡ false → A → ⊥) → b ≡ c
 is_flag b c e t f = grind (arith, common_steps)
 
 module _ {T : Type 0} (key : QueueLimits) (s : QueueTable T) (r : IsShownQueue key s) (id n : ℕ) (m : QueueHolder T) (at : get_elem? s.views id ≡ some m.0) (one : m.0.names ≡ n ∷ []) where
@@ -39,7 +39,7 @@ module _ {T : Type 0} (key : QueueLimits) (s : QueueTable T) (r : IsShownQueue k
       let o = queue_object key.size key.seats in
       let law = queue_law key.size key.seats r.encoded.some_cell in
       let quiet : (tells : List (Mark T) → Type 0) → tells r.core.past → _ = λ tells told. observes o s r id n m at one law (Alike p) e 16 tells told in
-      (sight m.0.names r.core.past p m.0.left, keeps, tt, (quiet TellsNothing tt).0, λ u is. (quiet (λ past. (u.count ≡ upper_count (reverse past)) × (IsTrue u.is_shut ↔ Has Close (reverse past))) (tells_up u is)).1)
+      (sight m.0.names m.0.noted r.core.past p m.0.left, keeps, tt, (quiet TellsNothing tt).0, λ u is. (quiet (λ past. (u.count ≡ upper_count (reverse past)) × (IsTrue u.is_shut ↔ Has Close (reverse past))) (tells_up u is)).1)
 
   pub few_low : slice_index s.words 32 < shut_bit
   few_low = let b = lower_bounds key s r id n m at one in open_below (slice_index s.words 32) 1024 (lower_most key s r id n m at one) r.core.lower r.encoded.words_are.lower_is b.0 b.1
@@ -49,7 +49,7 @@ module _ {T : Type 0} (key : QueueLimits) (s : QueueTable T) (r : IsShownQueue k
       let o = queue_object key.size key.seats in
       let law = queue_law key.size key.seats r.encoded.some_cell in
       let quiet : (tells : List (Mark T) → Type 0) → tells r.core.past → _ = λ tells told. observes o s r id n m at one law (Alike p) e 32 tells told in (
-        sight m.0.names r.core.past p m.0.left,
+        sight m.0.names m.0.noted r.core.past p m.0.left,
         keeps,
         tt,
         (quiet TellsNothing tt).0,

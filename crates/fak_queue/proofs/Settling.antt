@@ -35,7 +35,7 @@ stays_at_rest {T} {size} {seats} {m} {after} few rests slots told =
     let now : QueueHolder T = (settled m.0, m.1) in
     let there : Rests size seats m.0.names m.0.left now = record {
       token = record {
-        me_is = λ i. (record { names = m.0.names; seen = m.0.seen; phase = rests i; left = m.0.left; told = []; told_names = [] }, slots i);
+        me_is = λ i. (record { names = m.0.names; seen = m.0.seen; phase = rests i; left = m.0.left; told = []; told_names = []; noted = m.0.noted }, slots i);
         few = few;
         named = told.heard.named;
       };

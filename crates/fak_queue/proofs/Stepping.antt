@@ -1,5 +1,5 @@
 -- What a seat knows as it takes an atomic step, and the steps that take and give no slot.
-use Rattle.fak_queue.proofs.Common.{Alike, Each, Standing, StandsIn, QueueLimits, shut_part, AreWords, QueueView, QueueHolder, queue_object, IsShownQueue, ◌≡◌, ◌≢◌, ℕ, ◌+◌, ◌-◌, ◌%◌, ◌^◌, ◌<◌, ◌≤◌, List, [], ◌∷◌, ◌++◌, slice_index, set, refl, sym, ap, ◌∙◌, subst, inl, arith, mod-lt, Option, Some, true, false, ℤ, pos, ◌+ℤ◌, ◌-ℤ◌, reverse, All, All-head, All-tail, ints, some, get_elem?, count, puts, gots, upper_raise, upper_drop, lower_raise, lower_drop, upper_count, lower_count, SeatsBelow, In, sight, AreOwn, Leaves, bias, State, Act, keeps, stepped, carried_after, Valid, Mark, count_reverse, upper_range, lower_range, AreLawful, Advances, steps, total_at, Phase, QueueState, with_at, InCell, IsReached, AreIdleFrom, IsKept, at_here, at_else, kept, legal_history}
+use Rattle.fak_queue.proofs.Common.{IsReachedFrom, reached_after, sleepers_after, Alike, Each, Standing, StandsIn, QueueLimits, shut_part, AreWords, QueueView, QueueHolder, queue_object, IsShownQueue, ◌≡◌, ◌≢◌, ℕ, ◌+◌, ◌-◌, ◌%◌, ◌^◌, ◌<◌, ◌≤◌, List, [], ◌∷◌, ◌++◌, slice_index, set, refl, sym, ap, ◌∙◌, subst, inl, arith, mod-lt, Option, Some, true, false, ℤ, pos, ◌+ℤ◌, ◌-ℤ◌, reverse, All, All-head, All-tail, ints, some, get_elem?, count, puts, gots, upper_raise, upper_drop, lower_raise, lower_drop, upper_count, lower_count, SeatsBelow, In, sight, AreOwn, Leaves, bias, State, Act, keeps, stepped, carried_after, Valid, Mark, count_reverse, upper_range, lower_range, AreLawful, Advances, steps, total_at, Phase, QueueState, with_at, InCell, AreIdleFrom, IsKept, at_here, at_else, kept, legal_history}
 use Rattle.fak_queue.proofs.WordWrites.{grown, shrunk, shut_part-small, words_same, words_upper, words_lower, words_turn}
 use Rattle.fak_queue.proofs.Slots.{stays_home}
 
@@ -141,24 +141,25 @@ module _ {T : Type 0} (key : QueueLimits) (s : QueueTable T) (r : IsShownQueue k
   beyond c others t far = others t (λ q. omega (arith, one_of, far, q)) ∙ r.reached.beyond t far
 
   -- the seat's step led to this state and left these marks, newest first
-  pub advances : (c : QueueState T) → IsReached key.size c → (new : List (Mark T)) → c.past ≡ new ++ r.core.past → AreOwn (λ (w : Mark T). w.seat) n new → (p : Phase T) → c.phase n ≡ p
+  pub advances : (c : QueueState T) → IsReachedFrom key.seats key.size r.core c → (new : List (Mark T)) → c.past ≡ new ++ r.core.past → AreOwn (λ (w : Mark T). w.seat) n new → (p : Phase T) → c.phase n ≡ p
       → ((t : ℕ) → t ≢ n → c.phase t ≡ r.core.phase t) → Advances (queue_object key.size key.seats) r.core n c new (Alike p)
-  advances c reached new past own p here others = record { reached = record { reached = reached; beyond = beyond c others }; past = past; own = own; stands = here; others = λ t q ne e. stands_else r.core c t (others t ne) q e }
+  advances c reached new past own p here others = record { reached = record { reached = reached_after key.size r.core c r.reached.reached reached; beyond = beyond c others }; past = past; own = own; stands = here; others = λ t q ne e. stands_else r.core c t (others t ne) q e }
 
   -- a step on a word that takes and gives no slot
-  pub quiet_step : (c : QueueState T) → IsReached key.size c → (new : List (Mark T)) → c.past ≡ new ++ r.core.past → AreOwn (λ (w : Mark T). w.seat) n new
+  pub quiet_step : (c : QueueState T) → IsReachedFrom key.seats key.size r.core c → (new : List (Mark T)) → c.past ≡ new ++ r.core.past → AreOwn (λ (w : Mark T). w.seat) n new
       → ((t : ℕ) → t ≢ n → c.phase t ≡ r.core.phase t) → c.turn ≡ r.core.turn → c.cell ≡ r.core.cell → ((i : ℕ) → InCell key.size (r.core.phase n) i → ⊥)
-      → (i w : ℕ) → AreWords key.size c.upper c.lower c.draws_in c.draws_out c.turn c.shut (set s.words i w) → (p : Phase T) → c.phase n ≡ p → ((j : ℕ) → InCell key.size p j → ⊥) → (left : ℕ)
+      → (i : ℕ) → (16 ≤ i) × (i < 80 + key.size) → (w : ℕ) → AreWords key.size c.upper c.lower c.draws_in c.draws_out c.turn c.shut (set s.words i w) → (p : Phase T) → c.phase n ≡ p → ((j : ℕ) → InCell key.size p j → ⊥) → (left : ℕ)
       → (count puts c.past + count gots c.past) + left ≤ (count puts r.core.past + count gots r.core.past) + m.0.left → (tells : List (Mark T) → Type 0) → tells r.core.past
-      → let v = sight m.0.names (new ++ r.core.past) p left in
+      → let v = sight m.0.names m.0.noted (new ++ r.core.past) p left in
       IsShownQueue key (stepped s i w id m.1 v keeps) × Leaves (queue_object key.size key.seats) m new p left m.1 tells (v, m.1)
-  quiet_step c reached new past own phases turn cell out i w words p here nowhere left few tells told =
+  quiet_step c reached new past own phases turn cell out i fit w words p here nowhere left few tells told =
       steps (queue_object key.size key.seats) s r id n m at one (queue_law key.size key.seats r.encoded.some_cell) c new (Alike p) (advances c reached new past own p here phases) i w keeps
       record {
         some_cell = r.encoded.some_cell;
         few_cells = r.encoded.few_cells;
         few_seats = r.encoded.few_seats;
         words_are = words;
+        sleepers = sleepers_after key.seats key.size r.core c r.notes s.words i w r.encoded.sleepers reached fit.0 fit.1;
         wide = r.encoded.wide;
         slots_are = stays_home key.size n r.core s.homes r.encoded.wide r.encoded.slots_are c phases turn cell out (λ j inside. nowhere j (subst (λ q. InCell key.size q j) here inside));
       }

@@ -1,6 +1,11 @@
 pub mod Words
+pub mod Accounts
+pub mod Sleepers
 pub mod Shown
 pub mod Steps
+pub mod SeatAccounts
+pub mod BitSteps
+pub mod SleeperRest
 pub mod StepTokens
 pub mod Queues
 pub mod Refusals

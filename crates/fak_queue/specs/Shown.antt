@@ -19,7 +19,9 @@ use Rattle.fak_core.specs.QueueBlocks.{Posts}
 use Rattle.fak_queue.specs.declared.standing.Standing.{Standing}
 use Rattle.fak_queue.specs.declared.standing.Standing.TheVariants.{Alike, Each}
 use Rattle.fak_queue.specs.declared.limits.QueueLimits.{QueueLimits}
+use Rattle.fak_model.specs.declared.note.Note.{Note}
 use Rattle.fak_queue.specs.Words.{AreWords}
+use Rattle.fak_queue.specs.Sleepers.{AreSleepers}
 
 -- what a seat of a queue knows, with the slots that it holds
 abbrev pub QueueView : Type 0 → Type 0
@@ -39,8 +41,8 @@ StandsIn core n (Alike p) = core.phase n ≡ p
 StandsIn {T} core n (Each ps) = (p : Phase T) → IsPost n p ps → core.phase n ≡ p
 
 -- a view whose names are all at this phase, which has compared nothing
-abbrev pub sight : {T : Type 0} → List ℕ → List (Mark T) → Phase T → ℕ → QueueView T
-sight names seen p left = view names seen (Alike p) left
+abbrev pub sight : {T : Type 0} → List ℕ → Option (List Note) → List (Mark T) → Phase T → ℕ → QueueView T
+sight names noted seen p left = view names noted seen (Alike p) left
 
 -- a slot at home has its cell's content if the turn is odd, and nothing if it is even
 pub record IsAtHome {T : Type 0} (turn : ℕ) (content : Option T) (home : maybe.Option (maybe.Option (Option T))) : Type 0 where
@@ -53,14 +55,15 @@ HasSlot size core homes cell =
     (IsAtHome (core.turn cell) (core.cell cell) (get_elem? homes cell) × ((seat : ℕ) → InCell size (core.phase seat) cell → ⊥))
     ⊎ ((seat : ℕ) × InCell size (core.phase seat) cell × (get_elem? homes cell ≡ some none))
 
--- the words and the slots show this state of a queue of this size
-pub record IsEncoded {T : Type 0} (size seats : ℕ) (core : QueueState T) (words : List ℕ) (homes : List (maybe.Option (Option T))) : Type 0 where
+-- the words and the slots show this state of a queue of this size, and its sleepers, whose seats have these notes
+pub record IsEncoded {T : Type 0} (size seats : ℕ) (core : QueueState T) (notes : ℕ → List Note) (words : List ℕ) (homes : List (maybe.Option (Option T))) : Type 0 where
   pub some_cell : 0 < size
   pub few_cells : size ≤ large_size
   pub few_seats : seats ≤ large_seats
   pub words_are : AreWords size core.upper core.lower core.draws_in core.draws_out core.turn core.shut words
   pub wide : length homes ≡ size
   pub slots_are : (cell : ℕ) → cell < size → HasSlot size core homes cell
+  pub sleepers : AreSleepers size seats core notes words
 
 -- some schedule leads to this state, in which no name from the number of seats on has a call
 pub record IsReachedBy {T : Type 0} (size seats : ℕ) (core : QueueState T) : Type 0 where

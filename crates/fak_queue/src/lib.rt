@@ -14,7 +14,7 @@
 //! - Callers owe that a seat belongs to this queue and is idle: `IsIdleSeat queue.now.object seat`.
 //! - To cite: `Inserts`, `Deletes` and their like (`specs/Queues.antt`, `specs/Retries.antt`), and the laws of `fak_model::laws`.
 //!
-//! `docs/CALLING.md` is the guide for callers; `crates/example_workers` and `crates/example_frames` are programs to copy.
+//! `docs/GUIDE.md` is the guide for callers; `crates/example_workers` and `crates/example_frames` are programs to copy.
 
 mod admission;
 mod bundle;
@@ -38,6 +38,7 @@ mod port;
 mod queue;
 mod rest;
 mod resting;
+mod role;
 mod rule;
 mod seat;
 mod standing;

@@ -1,5 +1,7 @@
 //! The atomic steps of a seat, on its token.
 
+pub(crate) mod bit_plays;
+pub(crate) mod bits;
 pub(crate) mod deletion;
 pub(crate) mod insertion;
 pub(crate) mod observation;

@@ -1,6 +1,7 @@
 //! The words of a queue's table.
 //!
-//! A queue has four words of its own and one for each cell.
+//! A queue has four words of its own and one for each cell. Sixteen words before them and sixteen behind them are for the
+//! bits of a channel's sleepers.
 //!
 //! - The upper count U: insertions that were claimed, or claimed beyond the bound and not withdrawn yet, minus the
 //!   deletions that have ended. An insertion tests U and adds 1 to it before it draws a ticket. A deletion ends by
@@ -22,7 +23,7 @@ use crate::found::NoRoom;
 use crate::in_use::InUse;
 use fak_model::{BIAS, count_of};
 
-/// The number of unused words before the first counter, and after the last turn.
+/// The number of words of bits before the first counter, and after the last turn; and how far the counters are apart.
 pub(crate) const MARGIN: usize = 16;
 
 /// The upper count, U.
