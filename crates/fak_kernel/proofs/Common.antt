@@ -11,7 +11,7 @@ pub use Rattle.fak_model.specs.declared.file.FileEntry.{FileEntry}
 pub use Rattle.fak_model.specs.declared.file.FileMark.{FileMark}
 pub use Rattle.fak_model.specs.declared.queue.Kind.{Kind}
 pub use Rattle.fak_model.specs.declared.queue.Mark.{Mark}
-pub use Rattle.fak_opening.specs.Opened.{fresh_processor, AreSeated}
+pub use Rattle.fak_processor.specs.Opened.{fresh_processor, AreSeated}
 pub use Rattle.fak_processor.proofs.Moving.{files_then}
 pub use Rattle.fak_processor.specs.Begun.{Between, IsLeftBy, IsFirst}
 pub use Rattle.fak_processor.specs.Faults.{IsOfLoop, IsOfStep}

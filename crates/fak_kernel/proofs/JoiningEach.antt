@@ -1,6 +1,6 @@
 -- Seats of all semaphores are joined.
 use Rattle.fak_kernel.proofs.Common.{JoinedTo, ids_of, ids_of_seats, JoinEach, ids_of_tallies, no_seat, no_tally, ◌≡◌, ℕ, zero, suc, ◌+◌, ◌<◌, ◌∙◌, drop, List, [], ◌∷◌, length, get_or, refl, ap, sym, subst, arith, map, SemInfo, SemSeatInfo, SemTallyInfo, JoinsSeat, sem_tally_of, Process}
-use Rattle.fak_opening.proofs.Dealing.{drop_at}
+use Rattle.fak_processor.proofs.Dealing.{drop_at}
 use Rattle.fak_kernel.proofs.Naming.{first_joined, next_joined}
 
 pub join_none : (os : List SemInfo) (ts : List (SemTallyInfo Process)) (ss : List (SemSeatInfo Process)) → os ≡ [] → ids_of_tallies ts ≡ ids_of os → ids_of_seats ss ≡ ids_of os → JoinEach os ts ss []

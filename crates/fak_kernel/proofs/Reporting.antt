@@ -165,7 +165,7 @@ module _ {script : ScriptOf} {o : ObjectsOf} {k : ℕ} {t : TalliesOf} {ended ha
         files : FilesJoined script.files k k t.files (files_of a.ledger)
         files = subst (λ (x : ℕ × ℕ). FilesJoined x.0 x.1 k t.files (files_of a.ledger)) (λ i. (for_it.files i, seated.files i)) a.files
 
-        weigh : (weight : NoteOf → ℕ) → sum_by weight (files_of a.ledger) ≡ sum_by (file_weight weight) (reported.lines_of report)
+        weigh : (weight : NoteOf → ℕ) → sum_by weight (files_of a.ledger) ≡ sum_by (file_weight weight) (reported.report_lines report)
         weigh weight =
             file_lines_weigh weight (map (λ m. m.note) a.ledger.made)
             ∙ (sum_by-map (file_weight weight) (λ m. m.note) a.ledger.made

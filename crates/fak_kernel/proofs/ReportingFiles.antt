@@ -2,9 +2,9 @@
 use Rattle.fak_kernel.proofs.Common.{free_entry, ReportOf, FileHold, hold_line, gather_from, FilesJoined, ◌≡◌, ℕ, zero, suc, ◌+◌, ◌≤◌, Bool, true, false, cond, List, [], ◌∷◌, ◌++◌, refl, ap, sym, ◌∙◌, subst, arith, map, replicate, sum_by, map-append, sum_by-cons, IsPermutation-map, sum_by-IsPermutation, TallyInfo, FileEntry, FileMark, entries_after, NoteOf}
 use Rattle.fak_run.specs.Replays.{Replays}
 use Rattle.fak_run.specs.Merging.{AreMerged}
-use Rattle.fak_run.specs.Reported.{is_file_line, file_lines, lines_of, FilesReplay}
+use Rattle.fak_run.specs.Reported.{is_file_line, file_lines, report_lines, FilesReplay}
 use Rattle.fak_run.proofs.Scan.{holds_replay}
-use Rattle.fak_opening.proofs.Fresh.{entries_fresh}
+use Rattle.fak_processor.proofs.Fresh.{entries_fresh}
 
 -- what file lines weigh among all lines
 abbrev pub file_weight : (NoteOf → ℕ) → NoteOf → ℕ
@@ -31,7 +31,7 @@ lines-gathered holds first (suc n) = map-append hold_line (holds first) (gather_
 
 -- the lines of all seats, which weigh as the file lines of the report, replay to the entries that are left
 pub files_replay : {n k : ℕ} {t : TallyInfo FileMark} {lines : List NoteOf} (report : ReportOf) → 1 ≤ k → FilesJoined n k k t lines → report.entries ≡ entries_after t.seen 0 n
-    → ((weight : NoteOf → ℕ) → sum_by weight lines ≡ sum_by (file_weight weight) (lines_of report)) → FilesReplay n report
+    → ((weight : NoteOf → ℕ) → sum_by weight lines ≡ sum_by (file_weight weight) (report_lines report)) → FilesReplay n report
 files_replay {n} {k} {t} {lines} report some f entries weigh =
     let merged : AreMerged k f.holds (entries_after [] 0 n) (entries_after t.seen 0 n) = holds_replay n k k some t.seen f.lawful f.named f.holds f.are in
     let permutation = IsPermutation-map hold_line (gather_from f.holds 0 k) merged.list merged.permutation in
@@ -39,6 +39,6 @@ files_replay {n} {k} {t} {lines} report some f entries weigh =
       list = map hold_line merged.list;
       as_often = λ weight.
           sum_by-IsPermutation weight (map hold_line (gather_from f.holds 0 k)) (map hold_line merged.list) permutation
-          ∙ (ap (sum_by weight) (lines-gathered f.holds 0 k) ∙ (f.often weight ∙ (weigh weight ∙ sym (file_lines_weigh weight (lines_of report)))));
+          ∙ (ap (sum_by weight) (lines-gathered f.holds 0 k) ∙ (f.often weight ∙ (weigh weight ∙ sym (file_lines_weigh weight (report_lines report)))));
       replays = subst (Replays (replicate n free_entry) (map hold_line merged.list)) (sym entries) (subst (λ (l : List FileEntry). Replays l (map hold_line merged.list) (entries_after t.seen 0 n)) (entries_fresh 0 n) merged.replays);
     }

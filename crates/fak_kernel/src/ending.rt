@@ -5,7 +5,7 @@ ghost use Rattle.fak_run.specs.ListScheduler.{turn_over};
 ghost use Rattle.fak_run.specs.Report.{ListSchedulerReports};
 ghost use Rattle.fak_run.specs.RunReports.{RunReports};
 ghost use Rattle.fak_processor.specs.Processors.{IsReached, ProcessorOf, lists_of};
-ghost use Rattle.fak_opening.specs.Opened.{AreSeated};
+ghost use Rattle.fak_processor.specs.Opened.{AreSeated};
 ghost use Rattle.fak_processor.specs.Begun.{IsLeftBy};
 ghost use Rattle.fak_run.specs.Told.{told_report};
 ghost use Rattle.fak_run.specs.Views.{report_of};
@@ -16,8 +16,7 @@ pub mod joined;
 pub mod reporting;
 
 use closing::close;
-use fak_opening::Plan;
-use fak_processor::{Objects, Seats};
+use fak_processor::{Objects, Plan, Seats};
 use fak_run::{Report, Run};
 use reporting::{report_with, rows_of};
 use std::alloc::AllocError;

@@ -1,7 +1,7 @@
 //! Runs on several processors, a thread for each.
 
 ghost use Rattle.std.specs.Prelude.{◌≡◌, ◌<◌, ℕ, Err, true, vec_len, slice_index_or, IfOk, IfErr};
-ghost use Rattle.fak_opening.specs.Opened.{AreProcessors};
+ghost use Rattle.fak_processor.specs.Opened.{AreProcessors};
 ghost use Rattle.fak_run.specs.Report.{ListSchedulerReports};
 ghost use Rattle.fak_run.specs.ReportText.{ListSchedulerPrints, RunPrints};
 ghost use Rattle.fak_run.specs.RunReports.{RunReports};
@@ -16,8 +16,7 @@ mod threads;
 use crate::ending::report_of_run;
 use crate::fault::RunFault;
 use collecting::all_left;
-use fak_opening::Plan;
-use fak_processor::{LoopFault, Seats};
+use fak_processor::{LoopFault, Plan, Seats};
 use fak_run::{Fault, Gate, Printed, Report, Run, print_brief, told_in_full};
 use fak_text::Script;
 use std::alloc::Global;

@@ -2,7 +2,7 @@
 
 ghost use Rattle.std.specs.Prelude.{◌≡◌, ◌<◌, vec_len, slice_index_or, IfOk, IfErr};
 ghost use Rattle.fak_processor.specs.Faults.{IsOfStep};
-ghost use Rattle.fak_opening.specs.Opened.{AreSeated};
+ghost use Rattle.fak_processor.specs.Opened.{AreSeated};
 ghost use Rattle.fak_processor.specs.Processors.{ProcessorOf};
 ghost use Rattle.fak_run.specs.Report.{ListSchedulerReports};
 ghost use Rattle.fak_run.specs.ReportText.{ListSchedulerPrints, RunPrints};
@@ -12,8 +12,7 @@ ghost use Rattle.fak_run.specs.Told.{told_report};
 ghost use Rattle.fak_run.specs.Views.{report_of};
 
 use crate::ending::report_of_run;
-use fak_opening::Plan;
-use fak_processor::{LoopFault, Objects, Processor, Seats, StepFault};
+use fak_processor::{LoopFault, Objects, Plan, Processor, Seats, StepFault};
 use fak_run::{Fault, FreeGate, Printed, Report, Run, print_brief, told_in_full};
 use fak_text::Script;
 use std::alloc::Global;

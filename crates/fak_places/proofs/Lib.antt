@@ -1,5 +1,6 @@
 mod Counts
 mod Fronts
+mod KeptInput
 mod MarkNames
 mod Objects
 mod OnlyKeys

@@ -19,3 +19,5 @@ pub mod Looping
 pub mod Spent
 pub mod Asking
 pub mod Seated
+pub mod Dealing
+pub mod Fresh

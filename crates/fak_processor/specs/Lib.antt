@@ -12,3 +12,4 @@ pub mod Begun
 pub mod Asking
 pub mod Layers
 pub mod Stations
+pub mod Opened

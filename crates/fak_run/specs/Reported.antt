@@ -17,8 +17,8 @@ abbrev pub file_lines : List NoteOf → List NoteOf
 file_lines lines = filter is_file_line lines
 
 -- the lines of all rows
-abbrev pub lines_of : ReportOf → List NoteOf
-lines_of report = flat_map (λ row. row.process.journal) report.rows
+abbrev pub report_lines : ReportOf → List NoteOf
+report_lines report = flat_map (λ row. row.process.journal) report.rows
 
 -- each line occurs as often in one list as in the other: under any weight of lines, both lists weigh the same
 abbrev pub AreAsOften : List NoteOf → List NoteOf → Type 0
@@ -28,5 +28,5 @@ AreAsOften lines others = (weight : NoteOf → ℕ) → sum_by weight lines ≡ 
 -- report
 pub record FilesReplay (files : ℕ) (report : ReportOf) : Type 0 where
   pub list : List NoteOf
-  pub as_often : AreAsOften list (file_lines (lines_of report))
+  pub as_often : AreAsOften list (file_lines (report_lines report))
   pub replays : Replays (replicate files free_entry) list report.entries

@@ -1,23 +1,23 @@
 //! The program `fak_where`: states the place at which an input of `fak` is wrong. It takes the word that `fak` takes, and the same input.
+//! With the word `--version` it prints its version.
 #![tactic(auto)]
 
-mod fault;
-mod service;
 #[cfg(test)]
 mod tests;
-mod words;
 
-use crate::fault::WhereFault;
-use crate::service::serve;
-use crate::words::{format_of, words_of};
+use fak_places::{WhereFault, asks_version, format_of, print_version, serve, words_of};
 use std::io::Write;
 use std::process::ExitCode;
 use std::rt::Env;
 use std::{env, io};
 
-/// Serves the words of the command line, from standard input to standard output. Returns the exit status.
+/// Serves the words of the command line, from standard input to standard output. Returns the exit status. If the words ask for the version,
+/// the input is not read.
 fn run<R: Input + Print + AllocGlobal + Env>(rt: &R) -> Result<u8, WhereFault> {
     let words = words_of(rt.alloc(), env::args(rt))?;
+    if asks_version(&words) {
+        return print_version(&mut io::writer(rt));
+    }
     let format = format_of(&words)?;
     serve(rt.alloc(), format, rt.reader(), &mut io::writer(rt))
 }

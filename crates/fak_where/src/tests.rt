@@ -1,9 +1,6 @@
 //! The places of mistakes, as users make them: an input of each kind, and the line that names its place.
 
-use crate::fault::WhereFault;
-use crate::service::serve;
-use crate::words::format_of;
-use fak_places::Format;
+use fak_places::{Format, WhereFault, asks_version, format_of, print_version, serve};
 use std::alloc::{AllocError, Global};
 use std::fmt::Display;
 use std::process::Abort;
@@ -499,7 +496,7 @@ fn faults_are_one_line_each(rt: HostRuntime) {
         (
             WhereFault::Usage,
             2,
-            "fak_where: usage: fak_where replay, fak_where check, fak_where run",
+            "fak_where: usage: fak_where replay, fak_where check, fak_where run, fak_where --version",
         ),
         (WhereFault::Memory, 1, "fak_where: out of memory"),
         (WhereFault::Read, 1, "fak_where: input could not be read"),
@@ -525,5 +522,26 @@ fn words_name_a_format(rt: HostRuntime) -> Result<(), AllocError> {
     ]?;
     assert!(rt; format_of(&words) == Ok(Format::Script));
     assert!(rt; format_of(&words[..1]) == Err(WhereFault::Usage));
+    Ok(())
+}
+
+/// Whether these words, after the program's name, ask for the version.
+fn ask_version(alloc: Global, words: &[&str]) -> Result<bool, AllocError> {
+    let mut all = vec![in alloc; format!(in alloc; "fak_where")?]?;
+    for word in words {
+        all.push(format!(in alloc; "{word}")?)?;
+    }
+    Ok(asks_version(&all))
+}
+
+#[test]
+fn one_word_asks_for_the_version(rt: HostRuntime) -> Result<(), AllocError> {
+    assert!(rt; ask_version(rt.alloc(), &["--version"])?);
+    assert!(rt; !ask_version(rt.alloc(), &[])?);
+    assert!(rt; !ask_version(rt.alloc(), &["version"])?);
+    assert!(rt; !ask_version(rt.alloc(), &["--version", "run"])?);
+    let mut written = Vec::new(rt.alloc());
+    assert!(rt; print_version(&mut written) == Ok(0));
+    assert!(rt; written.as_slice() == "fak_where 0.1.0\n".as_bytes());
     Ok(())
 }

@@ -4,8 +4,7 @@ ghost use Rattle.std.specs.Prelude.{◌≡◌, ◌<◌, ◌++◌, ◌∷◌, [],
 ghost use Rattle.fak_kernel.specs.Threads.{HasBegun, HasReturned};
 
 use crate::fault::StartFault;
-use fak_opening::Plan;
-use fak_processor::{LoopFault, Objects, Processor, Seats};
+use fak_processor::{LoopFault, Objects, Plan, Processor, Seats};
 use fak_run::{Gate, Run};
 use std::alloc::Global;
 use std::marker::{Send, Sync};

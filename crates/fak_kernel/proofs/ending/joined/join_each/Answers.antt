@@ -1,5 +1,5 @@
 use Rattle.fak_kernel.proofs.Common.{◌≡◌, append_assoc, [], List, drop, arith, subst, append-nil, SemTallyInfo, Process, JoinEach}
-use Rattle.fak_opening.proofs.Dealing.{drop_past}
+use Rattle.fak_processor.proofs.Dealing.{drop_past}
 use Rattle.fak_kernel.proofs.JoiningEach.{join_none, join_next}
 use Rattle.fak_kernel.proofs.ending.joined.join_each.Goals as goal
 
