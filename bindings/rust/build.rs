@@ -1,20 +1,25 @@
 //! Finds the library for C: in the folder that FAK_C_DIR names, else by pkg-config.
 //!
-//! With FAK_C_DIR, FAK_C_HEAP names the folder of liblibc_c.a, the heap over malloc. If it is not set, the program brings the heap's
-//! three functions itself, for instance by block.c.
+//! With FAK_C_DIR, FAK_C_HEAP names the folder of libfak_c_heap.a, the heap over malloc, or that of the toolchain's liblibc_c.a. If it is
+//! not set, the program brings the heap's three functions itself, for instance by block.c. With DOCS_RS nothing is linked: documentation
+//! needs no library.
 
 use std::env::{self, VarError};
 use std::ffi::OsString;
+use std::fs;
 use std::path::{Path, PathBuf};
 use std::process::{exit, Command};
 
 const PACKAGE: &str = "fak_c";
 const ARCHIVE: &str = "libfak_c.a";
-const VARIABLES: [&str; 6] = ["FAK_C_DIR", "FAK_C_HEAP", "PKG_CONFIG", "PKG_CONFIG_PATH", "PKG_CONFIG_LIBDIR", "PATH"];
+const VARIABLES: [&str; 7] = ["DOCS_RS", "FAK_C_DIR", "FAK_C_HEAP", "PKG_CONFIG", "PKG_CONFIG_PATH", "PKG_CONFIG_LIBDIR", "PATH"];
 
 fn main() {
     for name in VARIABLES {
         println!("cargo:rerun-if-env-changed={name}");
+    }
+    if env::var_os("DOCS_RS").is_some() {
+        return;
     }
     if let Err(missing) = find() {
         eprintln!("fak-seats: {missing}");
@@ -37,13 +42,36 @@ fn link(folder: &Path, name: &str) {
     println!("cargo:rerun-if-changed={}", folder.join(format!("lib{name}.a")).display());
 }
 
+// The version of an archive: what follows these words in the name of a symbol that it defines (version.c).
+fn version_of(archive: &[u8]) -> Option<String> {
+    let words = b"_needs_archive_";
+    let at = archive.windows(words.len()).position(|window| window == words)? + words.len();
+    let name = archive[at..].iter().take_while(|letter| letter.is_ascii_digit() || **letter == b'_');
+    Some(name.map(|letter| char::from(*letter)).collect::<String>().replace('_', "."))
+}
+
+// Refuses an archive of another version than this crate's.
+fn compare(archive: &Path) -> Result<(), String> {
+    let bytes = fs::read(archive).map_err(|error| format!("{}: {error}", archive.display()))?;
+    let wanted = env!("CARGO_PKG_VERSION");
+    match version_of(&bytes) {
+        Some(version) if version == wanted => Ok(()),
+        Some(version) => Err(format!("this crate has version {wanted}, but {ARCHIVE} {version}: {}", archive.display())),
+        None => Err(format!("this crate has version {wanted}, but {ARCHIVE} none: {}", archive.display())),
+    }
+}
+
 fn in_folder(folder: &Path) -> Result<(), String> {
-    if !folder.join(ARCHIVE).is_file() {
+    let archive = folder.join(ARCHIVE);
+    if !archive.is_file() {
         return Err(format!("FAK_C_DIR has no {ARCHIVE}: {}", folder.display()));
     }
+    compare(&archive)?;
     link(folder, "fak_c");
     if let Ok(heap) = env::var("FAK_C_HEAP") {
-        link(Path::new(&heap), "libc_c");
+        let heap = Path::new(&heap);
+        let is_installed = heap.join("libfak_c_heap.a").is_file();
+        link(heap, if is_installed { "fak_c_heap" } else { "libc_c" });
     }
     Ok(())
 }
@@ -59,6 +87,7 @@ fn by_pkg_config() -> Result<(), String> {
     if !answer.status.success() || folder.is_empty() {
         return Err(format!("pkg-config knows no {PACKAGE}: install it, and put PREFIX/lib/pkgconfig into PKG_CONFIG_PATH"));
     }
+    compare(&Path::new(&folder).join(ARCHIVE))?;
     link(Path::new(&folder), "fak_c");
     link(Path::new(&folder), "fak_c_heap");
     Ok(())

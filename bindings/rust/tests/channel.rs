@@ -1,4 +1,4 @@
-//! Each call of a channel's handles: what it does, and each of its refusals.
+//! What the handles of a channel do besides the calls in `rows.rs`: times, closes, worn ends, and texts.
 #![cfg(feature = "std")]
 
 use fak_seats::channel::{bounded, open, Receiver, RecvError, RecvTimeoutError};
@@ -13,68 +13,47 @@ const SHORT: Duration = Duration::from_millis(30);
 const LONG: Duration = Duration::from_secs(600);
 
 #[test]
-fn items_come_out_in_order() {
-    let (sender, receiver) = bounded(3, 2).unwrap();
-    assert_eq!((sender.capacity(), receiver.capacity(), sender.len(), receiver.len()), (3, 3, 0, 0));
-    assert!(sender.is_empty() && receiver.is_empty() && !sender.is_full() && !receiver.is_full());
-    assert_eq!((sender.send(1), sender.try_send(2), sender.send_timeout(3, LONG)), (Ok(()), Ok(()), Ok(())));
-    assert_eq!((sender.len(), receiver.len()), (3, 3));
-    assert!(!sender.is_empty() && !receiver.is_empty() && sender.is_full() && receiver.is_full());
-    assert_eq!((receiver.recv(), receiver.try_recv(), receiver.recv_timeout(LONG)), (Ok(1), Ok(2), Ok(3)));
-    let deadline = Instant::now() + LONG;
-    assert_eq!((sender.send_deadline(4, deadline), receiver.recv_deadline(deadline)), (Ok(()), Ok(4)));
-    assert_eq!((sender.len(), receiver.is_empty(), sender.is_closed(), receiver.is_closed()), (0, true, false, false));
+fn handles_tell_how_full_the_channel_is() {
+    let (sender, receiver) = bounded(2, 2).unwrap();
+    assert_eq!((sender.capacity(), receiver.capacity()), (2, 2));
+    for length in 0..=2 {
+        assert_eq!((sender.len(), receiver.len()), (length, length));
+        assert_eq!((sender.is_empty(), receiver.is_empty()), (length == 0, length == 0));
+        assert_eq!((sender.is_full(), receiver.is_full()), (length == 2, length == 2));
+        assert_eq!(sender.try_send(7).is_ok(), length < 2);
+    }
+}
+
+// Whether the call took at least this long.
+fn lasts(least: Duration, call: impl FnOnce()) -> bool {
+    let begun = Instant::now();
+    call();
+    begun.elapsed() >= least
 }
 
 #[test]
-fn a_full_channel_refuses() {
+fn a_full_channel_is_given_up_in_time() {
     let (sender, _receiver) = bounded(1, 2).unwrap();
-    sender.send(1).unwrap();
-    assert_eq!(sender.try_send(2), Err(TrySendError::Full(2)));
-    let begun = Instant::now();
-    assert_eq!(sender.send_timeout(3, SHORT), Err(SendTimeoutError::Timeout(3)));
-    assert!(begun.elapsed() >= SHORT);
-    let begun = Instant::now();
-    assert_eq!(sender.send_deadline(4, begun + SHORT), Err(SendTimeoutError::Timeout(4)));
-    assert!(begun.elapsed() >= SHORT);
-    assert_eq!(sender.send_timeout(5, Duration::ZERO), Err(SendTimeoutError::Timeout(5)));
-    assert_eq!(sender.send_deadline(6, begun), Err(SendTimeoutError::Timeout(6)));
-    assert_eq!(sender.len(), 1);
+    let deadline = Instant::now() + LONG;
+    assert_eq!(sender.send_deadline(1, deadline), Ok(()));
+    assert!(lasts(SHORT, || assert_eq!(sender.send_timeout(3, SHORT), Err(SendTimeoutError::Timeout(3)))));
+    assert!(lasts(SHORT, || assert_eq!(sender.send_deadline(4, Instant::now() + SHORT), Err(SendTimeoutError::Timeout(4)))));
+    assert_eq!((sender.send_deadline(6, Instant::now()), sender.len()), (Err(SendTimeoutError::Timeout(6)), 1));
+    assert!(sender.close());
+    assert_eq!(sender.send_deadline(8, deadline), Err(SendTimeoutError::Closed(8)));
 }
 
 #[test]
-fn an_empty_channel_refuses() {
+fn an_empty_channel_is_given_up_in_time() {
     let (sender, receiver) = bounded::<u8>(1, 2).unwrap();
-    assert_eq!(receiver.try_recv(), Err(TryRecvError::Empty));
-    let begun = Instant::now();
-    assert_eq!(receiver.recv_timeout(SHORT), Err(RecvTimeoutError::Timeout));
-    assert!(begun.elapsed() >= SHORT);
-    let begun = Instant::now();
-    assert_eq!(receiver.recv_deadline(begun + SHORT), Err(RecvTimeoutError::Timeout));
-    assert!(begun.elapsed() >= SHORT);
-    assert_eq!(receiver.recv_timeout(Duration::ZERO), Err(RecvTimeoutError::Timeout));
-    assert_eq!(receiver.recv_deadline(begun), Err(RecvTimeoutError::Timeout));
+    let deadline = Instant::now() + LONG;
+    assert!(lasts(SHORT, || assert_eq!(receiver.recv_timeout(SHORT), Err(RecvTimeoutError::Timeout))));
+    assert!(lasts(SHORT, || assert_eq!(receiver.recv_deadline(Instant::now() + SHORT), Err(RecvTimeoutError::Timeout))));
+    assert_eq!(receiver.recv_deadline(Instant::now()), Err(RecvTimeoutError::Timeout));
     // What gave up takes no item later.
     sender.send(7).unwrap();
-    assert_eq!((receiver.len(), receiver.recv_timeout(Duration::ZERO)), (1, Ok(7)));
-}
-
-#[test]
-fn a_closed_channel_refuses_and_is_drained() {
-    let (sender, receiver) = bounded(4, 2).unwrap();
-    (1..=4).for_each(|item| sender.send(item).unwrap());
-    assert_eq!((sender.close(), sender.close(), receiver.close()), (true, false, false));
-    assert_eq!((sender.is_closed(), receiver.is_closed(), receiver.len()), (true, true, 4));
-    assert_eq!((sender.send(5), sender.try_send(6)), (Err(SendError::Closed(5)), Err(TrySendError::Closed(6))));
-    assert_eq!(sender.send_timeout(7, LONG), Err(SendTimeoutError::Closed(7)));
-    assert_eq!(sender.send_deadline(8, Instant::now() + LONG), Err(SendTimeoutError::Closed(8)));
-    assert_eq!((receiver.recv(), receiver.try_recv(), receiver.recv_timeout(LONG)), (Ok(1), Ok(2), Ok(3)));
-    assert_eq!(receiver.recv_deadline(Instant::now() + LONG), Ok(4));
-    for _ in 0..3 {
-        assert_eq!((receiver.recv(), receiver.try_recv()), (Err(RecvError::Closed), Err(TryRecvError::Closed)));
-        assert_eq!(receiver.recv_timeout(LONG), Err(RecvTimeoutError::Closed));
-        assert_eq!(receiver.recv_deadline(Instant::now() + LONG), Err(RecvTimeoutError::Closed));
-    }
+    assert_eq!((receiver.len(), receiver.recv_deadline(deadline), receiver.close()), (1, Ok(7), true));
+    assert_eq!(receiver.recv_deadline(deadline), Err(RecvTimeoutError::Closed));
 }
 
 #[test]

@@ -1,9 +1,8 @@
-//! Large objects: numbers on either side of each limit, and 128 threads.
+//! Large objects: arrays of seats on either side of the limit, a queue of many cells, and 128 threads.
 
 use fak_seats::{CreditSeat, Fault, FileSeat, RoomSeat, Seat, SemSeat, Step};
 use std::thread::{spawn, yield_now, Builder};
 
-const SIZE: u64 = 1 << 24;
 const CALLS: u64 = 1 << 50;
 
 // Runs it on a thread whose stack has room for the arrays.
@@ -31,18 +30,6 @@ fn more_seats_are_refused() {
         assert_eq!(CreditSeat::open::<1025>(1, 1).err(), Some(Fault::BadLimit));
         assert_eq!(FileSeat::open::<1025>(1, 1).err(), Some(Fault::BadLimit));
     });
-}
-
-#[test]
-fn more_calls_and_cells_are_refused() {
-    assert_eq!(Seat::open::<3>(4, CALLS / 3 + 1).err(), Some(Fault::BadLimit));
-    assert_eq!(SemSeat::open::<3>(4, 4, CALLS / 3 + 1).err(), Some(Fault::BadLimit));
-    assert_eq!(RoomSeat::open::<3>(4, CALLS / 3 + 1).err(), Some(Fault::BadLimit));
-    assert_eq!(CreditSeat::open::<3>(4, CALLS / 3 + 1).err(), Some(Fault::BadLimit));
-    assert_eq!(FileSeat::open::<3>(4, CALLS / 3 + 1).err(), Some(Fault::BadLimit));
-    assert!(Seat::open::<3>(4, CALLS / 3).is_ok());
-    assert_eq!(Seat::open::<2>(SIZE + 1, 1).err(), Some(Fault::BadLimit));
-    assert_eq!(SemSeat::open::<2>(0, SIZE + 1, 1).err(), Some(Fault::BadLimit));
 }
 
 #[test]

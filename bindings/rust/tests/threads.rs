@@ -1,4 +1,4 @@
-//! Seats on threads, and what the calls of each kind return.
+//! Seats on threads. The calls are in `rows.rs`.
 
 use fak_seats::{CreditSeat, Fault, FileSeat, RoomSeat, Seat, SemSeat, Step};
 use std::thread::{spawn, yield_now};
@@ -73,14 +73,6 @@ fn a_parked_item_is_woken_on_another_thread() {
 }
 
 #[test]
-fn a_wake_waits_for_its_item() {
-    let [mut a, mut b] = SemSeat::open::<2>(0, 4, 100).unwrap();
-    assert_eq!((a.down(9), b.up()), (Ok(Step::NotYet), Ok(Step::NotYet)));
-    assert_eq!((b.try_wake(), a.try_park()), (Ok(Step::NotYet), Ok(Step::Done(()))));
-    assert_eq!(done(|| b.try_wake()), 9);
-}
-
-#[test]
 fn a_room_is_never_over_its_bound() {
     let seats = RoomSeat::open::<4>(7, 1 << 30).unwrap();
     let threads = seats.map(|mut seat| {
@@ -146,54 +138,6 @@ fn add_one(seat: &mut FileSeat) {
     seat.set_inode(1, inode).unwrap();
     seat.set_uses(1, uses + 1).unwrap();
     seat.end().unwrap();
-}
-
-#[test]
-fn openings_have_limits() {
-    assert_eq!(Seat::open::<0>(1, 1).err(), Some(Fault::BadLimit));
-    assert_eq!(Seat::open::<1025>(1, 1).err(), Some(Fault::BadLimit));
-    assert_eq!(Seat::open::<1>(0, 1).err(), Some(Fault::BadLimit));
-    assert_eq!(SemSeat::open::<1>(0, (1 << 24) + 1, 1).err(), Some(Fault::BadLimit));
-    assert_eq!(SemSeat::open::<1>((1 << 32) + 1, 1, 1).err(), Some(Fault::BadLimit));
-    assert_eq!(RoomSeat::open::<1>((1 << 32) + 1, 1).err(), Some(Fault::BadLimit));
-    assert_eq!(CreditSeat::open::<1>((1 << 32) + 1, 1).err(), Some(Fault::BadLimit));
-    assert_eq!(FileSeat::open::<1>(17, 1).err(), Some(Fault::BadLimit));
-}
-
-#[test]
-fn each_refusal_says_why() {
-    let [mut seat] = Seat::open::<1>(1, 2).unwrap();
-    assert_eq!((seat.delete(), seat.try_fill()), (Err(Fault::Empty), Err(Fault::WrongState)));
-    assert_eq!((seat.insert(1), seat.insert(2)), (Ok(Step::Done(0)), Err(Fault::Full)));
-    assert_eq!((seat.delete(), seat.try_take()), (Ok(Step::Done(1)), Err(Fault::WrongState)));
-    assert_eq!((seat.insert(3), seat.delete()), (Err(Fault::Worn), Err(Fault::Worn)));
-    let [mut semaphore] = SemSeat::open::<1>(1, 1, 2).unwrap();
-    assert_eq!((semaphore.try_park(), semaphore.try_wake()), (Err(Fault::WrongState), Err(Fault::WrongState)));
-    assert_eq!((semaphore.down(1), semaphore.up()), (Ok(Step::Done(())), Ok(Step::Done(()))));
-    assert_eq!((semaphore.down(1), semaphore.up()), (Err(Fault::Worn), Err(Fault::Worn)));
-    let [mut room, mut other] = RoomSeat::open::<2>(5, 2).unwrap();
-    assert_eq!((room.claim(0), room.claim(1_025)), (Err(Fault::BadLimit), Err(Fault::BadLimit)));
-    assert_eq!((room.claim(3), other.claim(3), other.claim(2)), (Ok(0), Err(Fault::AtBound(3)), Ok(3)));
-    assert_eq!((room.held(), other.held(), room.release(2), room.held()), (3, 2, Ok(5), 1));
-    assert_eq!((room.claim(2), room.claim(1), room.release(4)), (Ok(3), Err(Fault::Worn), Err(Fault::BadLimit)));
-    assert_eq!((room.release(3), other.release(2), room.held()), (Ok(5), Ok(2), 0));
-    let [mut credit] = CreditSeat::open::<1>(1, 3).unwrap();
-    assert_eq!((credit.debit(), credit.debit(), credit.credit()), (Ok(1), Ok(0), Ok(-1)));
-    assert_eq!((credit.value(), credit.debit(), credit.credit()), (0, Err(Fault::Worn), Err(Fault::Worn)));
-}
-
-#[test]
-fn a_busy_table_says_how_much_is_left() {
-    let [mut own, mut second, mut third] = FileSeat::open::<3>(1, 2).unwrap();
-    assert_eq!((own.try_read(), own.try_read()), (Ok(()), Err(Fault::WrongState)));
-    assert_eq!((second.try_write(), second.try_read()), (Err(Fault::Busy(2)), Ok(())));
-    assert_eq!((third.try_write(), own.end()), (Err(Fault::Busy(1)), Ok(())));
-    assert_eq!((second.end(), third.try_write()), (Ok(()), Ok(())));
-    assert_eq!((own.try_read(), own.try_write()), (Err(Fault::Busy(0)), Err(Fault::Busy(0))));
-    assert_eq!((third.set_inode(0, 7), third.set_uses(0, 8), third.set_inode(1, 7)), (Ok(()), Ok(()), Err(Fault::WrongState)));
-    assert_eq!((third.get(0), third.end()), (Ok((7, 8)), Ok(())));
-    assert_eq!((own.get(0), own.try_read(), own.get(0)), (Err(Fault::WrongState), Ok(()), Ok((7, 8))));
-    assert_eq!((own.end(), own.try_read()), (Ok(()), Err(Fault::Worn)));
 }
 
 #[test]

@@ -1,4 +1,4 @@
-/* Memory of the caller for objects: link block.c in place of the toolchain's liblibc_c.a. It is C, and tested, not proved.
+/* Memory of the caller for objects: link block.c in place of libfak_c_heap.a, the heap over malloc. It is C, and tested, not proved.
  *
  * Between fak_c_block_begin and fak_c_block_end all that the opening calls allocate lies in the caller's block. A block may have several
  * objects. The block belongs to the caller again when fak_c_block_is_free: when the last seat of each of its objects has left. Seats may

@@ -5,9 +5,7 @@
  * leaves frees the object. No call waits: if it returns FAK_C_NOT_YET, FAK_C_FULL, FAK_C_EMPTY or FAK_C_BUSY, the caller may try
  * again. Only calls that open objects allocate, and only these and fak_c_leave free memory.
  *
- * Never sleep on a refusal. It is about one moment of the call, and counts claims that others are about to take back. A seat may read
- * FAK_C_EMPTY although an item lay in the queue before its call, and still lies there after it. "Queues" below says why, and how a
- * thread sleeps.
+ * Never sleep on a refusal: it counts claims that others are about to take back. "Queues" below says more, and how a thread sleeps.
  *
  * What C owes, and nothing checks:
  * - One call at a time on a handle. A handle that goes to another thread is handed over in order: by a lock, by the start or
@@ -40,11 +38,10 @@
  * The calls that open, and fak_c_leave, call the heap, which the interrupted code may be in. The forked child of a process with
  * threads must not call any of these.
  *
- * For kernels there are two archives with the same calls, libfak_c.a by `rt lib` and by `rt lib --backend rattle`. The first
- * uses SSE registers in any call, also if its caller is compiled without them; the second only in calls that open or free an
- * object. README.md says what each contains. Both need these functions, and no others: rattle_alloc, rattle_realloc and
- * rattle_dealloc, from the toolchain's liblibc_c.a over malloc, realloc and free, or from block.c over memory of your own. The
- * first archive also needs memcpy and memset.
+ * For kernels there are two archives with the same calls: one that LLVM compiled, and one that Rattle's own compiler compiled. The first
+ * uses SSE registers in any call, also if its caller is compiled without them; the second only in calls that open or free an object.
+ * README says what each contains. Both need these functions, and no others: rattle_alloc, rattle_realloc and rattle_dealloc, from
+ * libfak_c_heap.a over malloc, realloc and free, or from block.c over memory of your own. The first archive also needs memcpy and memset.
  *
  * What the calls use, except those of a channel (fak_channel.h). Stack: below 256 bytes; below 768 in a burst; below 4,608 in
  * fak_c_leave; below 6,144 in a call that opens. Heap: what "Sizes" below says, and more while an object is opened (block.h). Time: to
@@ -76,6 +73,30 @@ void __tsan_acquire(void *address);
 #else
 #define FAK_C_GIVES(pointer) ((void)(pointer))
 #define FAK_C_GETS(pointer) ((void)(pointer))
+#endif
+
+#define FAK_C_KEPT __attribute__((used)) /* neither the compiler nor, with `retain`, the linker drops the variable */
+#if defined(__has_attribute)
+#if __has_attribute(retain)
+#undef FAK_C_KEPT
+#define FAK_C_KEPT __attribute__((used, retain))
+#endif
+#endif
+
+/* ---- Version ----
+ *
+ * The version of this header. Each object that includes it refers to a symbol that only an archive of the same version has. So the linker
+ * refuses an archive of another version, and its message names this symbol. Define FAK_C_ANY_VERSION before the header if nothing is to be
+ * compared. */
+#define FAK_C_VERSION_MAJOR 0
+#define FAK_C_VERSION_MINOR 1
+#define FAK_C_VERSION_PATCH 0
+#define FAK_C_VERSION "0.1.0"
+#define FAK_C_VERSION_SYMBOL fak_c_header_0_1_0_needs_archive_0_1_0
+
+extern const char FAK_C_VERSION_SYMBOL[];
+#ifndef FAK_C_ANY_VERSION
+static const char *const fak_c_needs_version FAK_C_KEPT = FAK_C_VERSION_SYMBOL;
 #endif
 
 /* A handle. It owns a seat of one object, or nothing if it is all zeros. The unused bytes keep its pointer on a cache line of 64 bytes
@@ -172,9 +193,9 @@ int32_t fak_c_move(fak_c_seat *seat, fak_c_seat *to);
  * Never sleep on a refusal. A seat that claims an item although there is none takes its claim back by a second step. Between the two
  * its claim hides one item: a thread that inserts an item and then deletes may read FAK_C_EMPTY although that item is there, and so may
  * every other thread. So a thread that tries, announces that it will sleep, tries once more and sleeps may sleep forever although there
- * is an item: the insertion that would wake it is over. The same holds for FAK_C_FULL, of a queue and of a room, and for FAK_C_BUSY. The
- * test refusals.c counts how often it happens: while one thread polled, up to 60 of 100,000 deletions were refused although their item
- * was there, and none in other runs. There are three right ways:
+ * is an item: the insertion that would wake it is over. The same holds for FAK_C_FULL, of a queue and of a room, and for FAK_C_BUSY. While
+ * one thread polled, up to 60 of 100,000 deletions were refused although their item was there, and none in other runs. There are three
+ * right ways:
  * - Use the channel of fak_channel.h, whose threads sleep.
  * - Spin or yield, and try again.
  * - Sleep on a semaphore that counts the items: an up after each insertion, a down before each deletion. What it parks are the threads,
@@ -188,7 +209,9 @@ enum {
     FAK_C_DELETING = 2   /* a deletion was claimed: fak_c_try_take is next */
 };
 
-/* Opens an empty queue of `size` cells (1 to 2^24). The stint counts insertions and deletions together. */
+/* Opens an empty queue of `size` cells (1 to 2^24). The stint counts insertions and deletions together.
+ *
+ * FAK_C_OK, FAK_C_BAD_LIMIT or FAK_C_MEMORY. */
 int32_t fak_c_open(fak_c_seat *seats, size_t n, uint64_t size, uint64_t stint);
 
 /* Claims room for the item, and writes the insertion's ticket: the number of insertions granted before. The seat keeps the
@@ -227,7 +250,9 @@ int32_t fak_c_insert(fak_c_seat *seat, uint64_t item, uint64_t *ticket);
  * FAK_C_OK; FAK_C_NOT_YET with the claim kept for fak_c_try_take; or a refusal of fak_c_claim_delete. */
 int32_t fak_c_delete(fak_c_seat *seat, uint64_t *ticket, uint64_t *item);
 
-/* The same for callers that need no ticket: the pointer to it may be null. */
+/* fak_c_insert and fak_c_delete for callers that need no ticket: the pointer to it may be null.
+ *
+ * The codes of fak_c_insert and fak_c_delete. */
 static inline int32_t fak_c_put(fak_c_seat *seat, uint64_t item, uint64_t *ticket) {
     uint64_t unused = 0;
     return fak_c_insert(seat, item, ticket ? ticket : &unused);
@@ -261,8 +286,7 @@ int32_t fak_c_shut(fak_c_seat *seat, bool *was_open);
 int32_t fak_c_state(fak_c_seat *seat, uint32_t *state, uint64_t *ticket, uint64_t *left);
 
 /* What the queue holds. Each of these loads one count, so it writes what held at one moment of the call; others may have changed it
- * since. None waits, changes the queue's history, or counts against the stint. The seat may be in any state. FAK_C_OK or
- * FAK_C_NO_SEAT, which writes nothing.
+ * since. None waits, changes the queue's history, or counts against the stint. The seat may be in any state.
  *
  * fak_c_count writes the items that are ready: insertions that have ended, minus the deletions begun and not withdrawn. While no seat
  * has an open call it is the number of items. It is below 0 while deletions are refused; read 0 then.
@@ -271,7 +295,9 @@ int32_t fak_c_state(fak_c_seat *seat, uint32_t *state, uint64_t *ticket, uint64_
  * is shut. It is at least 0, and above the size while insertions are refused.
  *
  * fak_c_drained writes whether the queue is shut and has no cell in use. That never changes again, and no deletion finds an item then:
- * a consumer that has read FAK_C_EMPTY stops there. While it is false an item may still come. */
+ * a consumer that has read FAK_C_EMPTY stops there. While it is false an item may still come.
+ *
+ * FAK_C_OK; FAK_C_NO_SEAT, and nothing is written. */
 int32_t fak_c_count(fak_c_seat *seat, int64_t *items);
 int32_t fak_c_in_use(fak_c_seat *seat, int64_t *cells, bool *is_shut);
 int32_t fak_c_drained(fak_c_seat *seat, bool *is_drained);
@@ -362,7 +388,9 @@ enum {
 
 /* Opens a semaphore that begins at `start` (0 to 2^32), with an empty wait queue of `size` cells (1 to 2^24): at least as many as items
  * may wait at once. With fewer a down tries to park until an up makes room: forever, if the callers of the ups are parking too. The
- * stint counts downs and ups together. */
+ * stint counts downs and ups together.
+ *
+ * FAK_C_OK, FAK_C_BAD_LIMIT or FAK_C_MEMORY. */
 int32_t fak_c_sem_open(fak_c_seat *seats, size_t n, uint64_t start, uint64_t size, uint64_t stint);
 
 /* Begins a down. The seat must be idle.
@@ -396,7 +424,9 @@ int32_t fak_c_sem_state(fak_c_seat *seat, uint32_t *state, uint64_t *left);
 
 /* ---- Rooms: a count from 0 to a bound, of which seats claim amounts ---- */
 
-/* Opens a room whose count is 0, with this bound (0 to 2^32). The stint counts granted claims. */
+/* Opens a room whose count is 0, with this bound (0 to 2^32). The stint counts granted claims.
+ *
+ * FAK_C_OK, FAK_C_BAD_LIMIT or FAK_C_MEMORY. */
 int32_t fak_c_room_open(fak_c_seat *seats, size_t n, uint64_t bound, uint64_t stint);
 
 /* Claims the amount, 1 to 1,024, if count and amount together are at most the bound. `found` is the count before.
@@ -417,7 +447,9 @@ int32_t fak_c_room_state(fak_c_seat *seat, uint64_t *held, uint64_t *left);
 
 /* ---- Credits: a count that moves by 1, with no bound ---- */
 
-/* Opens a credit that begins at `start` (0 to 2^32). The stint counts debits and credits together. */
+/* Opens a credit that begins at `start` (0 to 2^32). The stint counts debits and credits together.
+ *
+ * FAK_C_OK, FAK_C_BAD_LIMIT or FAK_C_MEMORY. */
 int32_t fak_c_credit_open(fak_c_seat *seats, size_t n, uint64_t start, uint64_t stint);
 
 /* Subtracts 1, or adds 1. `found` is the count before; it may be below 0.
@@ -440,10 +472,12 @@ enum {
     FAK_C_FILES_WRITING = 2  /* no other seat holds the table */
 };
 
-/* Opens a table of `entries` entries (1 to 16), each with two fields, `inode` and `uses`, which are 0. The stint counts holds. */
+/* Opens a table of `entries` entries (1 to 16), each with two fields, `inode` and `uses`, which are 0. The stint counts holds.
+ *
+ * FAK_C_OK, FAK_C_BAD_LIMIT or FAK_C_MEMORY. */
 int32_t fak_c_files_open(fak_c_seat *seats, size_t n, uint64_t entries, uint64_t stint);
 
-/* A reader's hold, and a writer's, by one attempt. The seat must hold nothing.
+/* Takes a reader's hold, or a writer's, by one attempt. The seat must hold nothing.
  *
  * FAK_C_OK; FAK_C_WORN; FAK_C_BUSY, and `count` is what was left of n: a reader takes 1 of it, and a writer all. With no other code it is
  * written. FAK_C_NO_SEAT or FAK_C_WRONG_STATE. */

@@ -77,7 +77,7 @@ static inline void *fak_channel_pointer_of(const fak_channel_item *item) {
  * channel: zeros first, then these functions.
  *
  * Each number has a token. `unpark` sets the token of this number, and wakes a thread that is parked there. `park` returns true once the
- * token is set, and clears it. It may return true for no reason. It returns false if the deadline has passed and the token is not set.
+ * token is set, and clears it. Spurious wake-ups are allowed. It returns false if the deadline has passed and the token is not set.
  * Deadlines are yours: these calls only hand them on, except that FAK_CHANNEL_NEVER never passes, and that no call parks with a deadline
  * of 0. Only the thread that uses an end parks at its number. But at the numbers of the first two ends of a shared channel any number of
  * threads may park; then an `unpark` has to wake one of them at least.
@@ -132,13 +132,16 @@ int32_t fak_channel_send(fak_channel_end *end, const fak_channel_item *item);
  * FAK_C_OK; FAK_C_CLOSED if the channel was closed and has no item left; FAK_C_WORN; FAK_C_NO_SEAT or FAK_C_WRONG_STATE. */
 int32_t fak_channel_receive(fak_channel_end *end, fak_channel_item *item);
 
-/* The same, except that they never sleep: a send returns FAK_C_FULL instead, and a receive FAK_C_EMPTY. Such a refusal is about one moment
- * of the call. */
+/* Sends or receives, and never sleeps. A refusal as FAK_C_FULL or FAK_C_EMPTY is about one moment of the call.
+ *
+ * The codes of fak_channel_send and fak_channel_receive; FAK_C_FULL of a send, FAK_C_EMPTY of a receive. */
 int32_t fak_channel_try_send(fak_channel_end *end, const fak_channel_item *item);
 int32_t fak_channel_try_receive(fak_channel_end *end, fak_channel_item *item);
 
-/* The same, sleeping until the deadline at most: then FAK_C_GAVE_UP. The deadline is in nanoseconds of CLOCK_MONOTONIC, or of the clock
- * of your own `park`. Only a call that has to sleep looks at the deadline. If it has passed by then, the call gives up at once. */
+/* Sends or receives, and sleeps until the deadline at most. The deadline is in nanoseconds of CLOCK_MONOTONIC, or of the clock of your own
+ * `park`. Only a call that has to sleep looks at the deadline. If it has passed by then, the call gives up at once.
+ *
+ * The codes of fak_channel_send and fak_channel_receive; FAK_C_GAVE_UP once the deadline has passed. */
 int32_t fak_channel_send_until(fak_channel_end *end, const fak_channel_item *item, uint64_t deadline);
 int32_t fak_channel_receive_until(fak_channel_end *end, fak_channel_item *item, uint64_t deadline);
 
@@ -213,14 +216,24 @@ int32_t fak_channel_shared_open(
  * FAK_C_OK; FAK_C_BAD_LIMIT; FAK_C_NO_SEAT if an end is empty. */
 int32_t fak_channel_shared_over(fak_channel_shared *shared, fak_channel_end *ends, size_t senders, size_t receivers);
 
-/* The calls of an end, for any thread. FAK_C_WORN is returned only if each end of the side has used up its stint. A try returns FAK_C_BUSY
- * if all ends of its side are lent, whatever is in the channel. A deadline bounds the sleep for an end, too. */
+/* The calls of an end, for any thread, by an end that each borrows. It sleeps while all ends of its side are lent, and then as the call
+ * above does. A deadline bounds both sleeps.
+ *
+ * The codes of the same calls above. FAK_C_WORN is returned only if each end of the side has used up its stint. */
 int32_t fak_channel_shared_send(fak_channel_shared *shared, const fak_channel_item *item);
 int32_t fak_channel_shared_receive(fak_channel_shared *shared, fak_channel_item *item);
-int32_t fak_channel_shared_try_send(fak_channel_shared *shared, const fak_channel_item *item);
-int32_t fak_channel_shared_try_receive(fak_channel_shared *shared, fak_channel_item *item);
 int32_t fak_channel_shared_send_until(fak_channel_shared *shared, const fak_channel_item *item, uint64_t deadline);
 int32_t fak_channel_shared_receive_until(fak_channel_shared *shared, fak_channel_item *item, uint64_t deadline);
+
+/* The tries, which never sleep.
+ *
+ * The codes of the same calls above, FAK_C_WORN as above; FAK_C_BUSY if all ends of the side are lent, whatever is in the channel. */
+int32_t fak_channel_shared_try_send(fak_channel_shared *shared, const fak_channel_item *item);
+int32_t fak_channel_shared_try_receive(fak_channel_shared *shared, fak_channel_item *item);
+
+/* The close and the looks, which never sleep.
+ *
+ * The codes of the same calls of an end. */
 int32_t fak_channel_shared_close(fak_channel_shared *shared);
 int32_t fak_channel_shared_len(fak_channel_shared *shared, uint64_t *items);
 int32_t fak_channel_shared_is_closed(fak_channel_shared *shared, bool *is_closed);
@@ -250,10 +263,12 @@ enum {
     FAK_CHANNEL_SLEEPING = 2 /* a call is open, and sleeps: fak_channel_step, or fak_channel_give_up */
 };
 
-/* Opens an empty channel of `size` cells (1 to 2^24). The handle of index i gets the end of number i. */
+/* Opens an empty channel of `size` cells (1 to 2^24). The handle of index i gets the end of number i.
+ *
+ * FAK_C_OK, FAK_C_BAD_LIMIT or FAK_C_MEMORY. */
 int32_t fak_channel_open(fak_c_seat *ends, size_t n, uint64_t size, uint64_t stint);
 
-/* Each begins a call. The end must be idle. With FAK_C_OK the call is open. With any other code no call is open, and the item was not
+/* Begins a call. The end must be idle. With FAK_C_OK the call is open. With any other code no call is open, and the item was not
  * taken. The two tries look first, and may be refused then. A tried call goes on like any other, except that its caller gives up instead
  * of sleeping.
  *
@@ -265,7 +280,9 @@ int32_t fak_channel_begin_try_send(fak_c_seat *end, const fak_channel_item *item
 int32_t fak_channel_begin_try_receive(fak_c_seat *end);
 int32_t fak_channel_begin_close(fak_c_seat *end);
 
-/* Takes one more step of the open call. With the first three codes the call stays open:
+/* Takes one more step of the open call.
+ *
+ * With the first three codes the call stays open:
  * - FAK_C_NOT_YET: it waits for a step of another end's open call. Yield the processor, and step again. A coroutine that only yields to
  *   others of its thread keeps the processor from the thread that has to step.
  * - FAK_C_WAKES: wake the thread of the end of `number` now, and step again.
@@ -284,8 +301,9 @@ int32_t fak_channel_step(fak_c_seat *end, fak_channel_item *item, uint64_t *numb
  * and fak_channel_step is next; FAK_C_NO_SEAT, or FAK_C_WRONG_STATE if no call of the end sleeps. */
 int32_t fak_channel_give_up(fak_c_seat *end, fak_channel_item *item);
 
-/* Each looks once: at the items that are ready, and whether the channel was closed. The end may be in any state. FAK_C_OK or
- * FAK_C_NO_SEAT. */
+/* Each looks once: at the items that are ready, or whether the channel was closed. The end may be in any state.
+ *
+ * FAK_C_OK or FAK_C_NO_SEAT. */
 int32_t fak_channel_len(fak_c_seat *end, uint64_t *items);
 int32_t fak_channel_is_closed(fak_c_seat *end, bool *is_closed);
 

@@ -1,5 +1,5 @@
 /* The channel of fak_channel.h for C++17, with typed items: ends, each for one thread, and senders and receivers that any number of
- * threads copy. Compile fak_channel.c with the program, or link libfak_channel.a. Nothing here throws.
+ * threads copy. Compile fak_channel.c, which is C, or link libfak_channel.a. Nothing here throws.
  *
  * An item is any trivially copyable type of at most 32 bytes, or a std::unique_ptr, which the channel owns until it is received. What is
  * left in a channel when its last handle goes is deleted, unless this is an end that has used up its stint. A refused item stays with the

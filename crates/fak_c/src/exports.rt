@@ -14,7 +14,7 @@ mod semaphore;
 
 use fak_handles::code::{BAD_LIMIT, NO_SEAT, OK, WRONG_STATE};
 use fak_handles::opening::is_number_of_seats;
-use fak_handles::place::Place;
+use fak_handles::padded_handle::PaddedHandle;
 use std::alloc::Global;
 
 /// Opens a queue of `size` cells, and gives each of 1 to 1,024 handles a seat of it with this stint. What the handles held is
@@ -22,7 +22,12 @@ use std::alloc::Global;
 ///
 /// `OK`, `BAD_LIMIT` or `MEMORY`.
 #[unsafe(no_mangle)]
-pub extern "C" fn fak_c_open(alloc: Global, seats: &mut [Place], size: u64, stint: u64) -> i32
+pub extern "C" fn fak_c_open(
+    alloc: Global,
+    seats: &mut [PaddedHandle],
+    size: u64,
+    stint: u64,
+) -> i32
     ensures len { length seats.new ≡ length seats.old }
     ensures opens { OpensOrKeeps result seats.old seats.new (OpensQueue result size stint seats.new) }
 {
@@ -36,7 +41,7 @@ pub extern "C" fn fak_c_open(alloc: Global, seats: &mut [Place], size: u64, stin
 ///
 /// `OK`, `NO_SEAT`, or `WRONG_STATE` during a call or a hold: then the handle keeps the seat.
 #[unsafe(no_mangle)]
-pub extern "C" fn fak_c_leave(alloc: Global, seat: &mut Place) -> i32
+pub extern "C" fn fak_c_leave(alloc: Global, seat: &mut PaddedHandle) -> i32
     ensures { GivesUp result seat.old.handle.desk seat.new.handle.desk }
 {
     let Some(desk) = seat.take(alloc) else {
@@ -53,7 +58,12 @@ pub extern "C" fn fak_c_leave(alloc: Global, seat: &mut Place) -> i32
 
 /// Opens a room with this bound, and gives each handle a seat of it. Like `fak_c_open`.
 #[unsafe(no_mangle)]
-pub extern "C" fn fak_c_room_open(alloc: Global, seats: &mut [Place], bound: u64, stint: u64) -> i32
+pub extern "C" fn fak_c_room_open(
+    alloc: Global,
+    seats: &mut [PaddedHandle],
+    bound: u64,
+    stint: u64,
+) -> i32
     ensures len { length seats.new ≡ length seats.old }
     ensures opens { OpensOrKeeps result seats.old seats.new (OpensRoom result bound stint seats.new) }
 {
@@ -67,7 +77,7 @@ pub extern "C" fn fak_c_room_open(alloc: Global, seats: &mut [Place], bound: u64
 #[unsafe(no_mangle)]
 pub extern "C" fn fak_c_credit_open(
     alloc: Global,
-    seats: &mut [Place],
+    seats: &mut [PaddedHandle],
     start: u64,
     stint: u64,
 ) -> i32
@@ -84,7 +94,7 @@ pub extern "C" fn fak_c_credit_open(
 #[unsafe(no_mangle)]
 pub extern "C" fn fak_c_files_open(
     alloc: Global,
-    seats: &mut [Place],
+    seats: &mut [PaddedHandle],
     entries: u64,
     stint: u64,
 ) -> i32
@@ -101,7 +111,7 @@ pub extern "C" fn fak_c_files_open(
 #[unsafe(no_mangle)]
 pub extern "C" fn fak_c_sem_open(
     alloc: Global,
-    seats: &mut [Place],
+    seats: &mut [PaddedHandle],
     start: u64,
     size: u64,
     stint: u64,
@@ -117,7 +127,12 @@ pub extern "C" fn fak_c_sem_open(
 
 /// Opens an empty channel of `size` cells, and gives each handle an end of it, numbered by its place. Like `fak_c_open`.
 #[unsafe(no_mangle)]
-pub extern "C" fn fak_channel_open(alloc: Global, ends: &mut [Place], size: u64, stint: u64) -> i32
+pub extern "C" fn fak_channel_open(
+    alloc: Global,
+    ends: &mut [PaddedHandle],
+    size: u64,
+    stint: u64,
+) -> i32
     ensures len { length ends.new ≡ length ends.old }
     ensures opens { OpensOrKeeps result ends.old ends.new (OpensChannel result size stint ends.new) }
 {
@@ -131,7 +146,7 @@ pub extern "C" fn fak_channel_open(alloc: Global, ends: &mut [Place], size: u64,
 ///
 /// `OK`, `NO_SEAT`, or `WRONG_STATE` if the other has a seat.
 #[unsafe(no_mangle)]
-pub extern "C" fn fak_c_move(alloc: Global, seat: &mut Place, to: &mut Place) -> i32
+pub extern "C" fn fak_c_move(alloc: Global, seat: &mut PaddedHandle, to: &mut PaddedHandle) -> i32
     ensures { Moves result seat.old.handle.desk to.old.handle.desk seat.new.handle.desk to.new.handle.desk }
 {
     let Some(desk) = seat.take(alloc) else {

@@ -12,7 +12,7 @@
 //! - `End::into_seat`, then `Channel::tally`, `join` and `into_rest`, return what is left once all seats are back.
 //! - To cite: `Sends`, `Receives`, `IsOver`, `ClosesAs` and similar (`specs/Channels.antt`), in the terms of `fak_queue`.
 //!
-//! `docs/CALLING.md` is the guide for callers, and `crates/example_channel` is an example program.
+//! `docs/GUIDE.md` is the guide for callers, and `crates/example_channel` is an example program.
 
 mod acquiring;
 mod announcing;

@@ -1,5 +1,5 @@
 -- From the steps of a credit's seat to what the calls promise.
-use Rattle.fak_count.proofs.Common.{◌≡◌, ℕ, ◌+◌, ◌-◌, ◌<◌, ◌^◌, ℤ, pos, ◌-ℤ◌, List, [], ◌∷◌, length, length-append, refl, ap, sym, ◌∙◌, subst, arith, inl, reverse, map, flat_map, ints, IsAtRest, marks_of, sight, Leaves, ObjectId, object_id, SeatInfo, seat_info, Appends, before_appended, IsSeatToken, bias, rest_after, rest_none, begins_self, token_names, token_left, token_slots, step_appends, token_after, step_before, CreditHolder, credit_mark, credit_object, FoundValue, MadeMark, Observed, TableId, CreditKind, CreditMark, kind_of, value, credit_rules, CreditLimits}
+use Rattle.fak_count.proofs.Common.{◌≡◌, Some, ℕ, ◌+◌, ◌-◌, ◌<◌, ◌^◌, ℤ, pos, ◌-ℤ◌, List, [], ◌∷◌, length, length-append, refl, ap, sym, ◌∙◌, subst, arith, inl, reverse, map, flat_map, ints, IsAtRest, marks_of, sight, Leaves, ObjectId, object_id, SeatInfo, seat_info, Appends, before_appended, IsSeatToken, bias, rest_after, rest_none, begins_self, token_names, token_left, token_slots, step_appends, token_after, step_before, CreditHolder, credit_mark, credit_object, FoundValue, MadeMark, Observed, TableId, CreditKind, CreditMark, kind_of, value, credit_rules, CreditLimits}
 use Rattle.fak_count.specs.Credits.{CreditInfo, credit_info, seat_of, credit_seat, MakesCall, Observes}
 
 -- a seat of a credit, with its token m, and what contracts see of both
@@ -70,7 +70,7 @@ module _ (key : CreditLimits) {seats name left : ℕ} {table mine : TableId} {m 
         }
 
 -- a seat as it is dealt
-pub fresh_credit_seat : (object : ObjectId) (name stint : ℕ) (m : CreditHolder) → m ≡ (sight (name ∷ []) [] tt stint, []) → credit_seat object name stint m ≡ seat_info object name stint []
+pub fresh_credit_seat : (object : ObjectId) (name stint : ℕ) (m : CreditHolder) → m ≡ (sight (name ∷ []) (Some []) [] tt stint, []) → credit_seat object name stint m ≡ seat_info object name stint []
 fresh_credit_seat object name stint m is =
     let full : stint + 0 ≡ stint = omega arith in
     ap (λ (x : CreditHolder). credit_seat object name stint x) is ∙ ap (λ (k : ℕ). seat_info object name k []) full

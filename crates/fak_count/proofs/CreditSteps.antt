@@ -65,11 +65,11 @@ module _ (key : CreditLimits) (s : State (Unit {0}) CreditView) (r : IsShownCred
       let few : suc (length r.core) + (m.0.left - 1) ≤ length r.core + m.0.left = omega (arith, some_left) in
       let t = steps (credit_object key) s r id name m at one (lawful key) (credit_mark name kind ∷ r.core) (credit_mark name kind ∷ []) tt (advances kind) count_place (f (slice_index s.words count_place)) keeps
       (writes s.words (value key.start (reverse r.core)) (value key.start (reverse (credit_mark name kind ∷ r.core))) (f (slice_index s.words count_place)) r.encoded is) (m.0.left - 1) few (FoundValue key (slice_index s.words count_place)) found_now in (
-        sight m.0.names (credit_mark name kind ∷ r.core) tt (m.0.left - 1),
+        sight m.0.names m.0.noted (credit_mark name kind ∷ r.core) tt (m.0.left - 1),
         keeps,
         tt,
         t.0,
-        λ other e. subst (λ (n : ℕ). Leaves (credit_object key) m (credit_mark n kind ∷ []) tt (m.0.left - 1) m.1 (FoundValue key (slice_index s.words count_place)) (sight m.0.names (credit_mark name kind ∷ r.core) tt (m.0.left - 1), m.1)) (same_name other e) t.1,
+        λ other e. subst (λ (n : ℕ). Leaves (credit_object key) m (credit_mark n kind ∷ []) tt (m.0.left - 1) m.1 (FoundValue key (slice_index s.words count_place)) (sight m.0.names m.0.noted (credit_mark name kind ∷ r.core) tt (m.0.left - 1), m.1)) (same_name other e) t.1,
       )
 
   debits_by : 0 < m.0.left → Outcome (λ x. (x + (2 ^ 64 - 1)) % 2 ^ 64) (MadeMark key Debit m)
@@ -83,7 +83,7 @@ module _ (key : CreditLimits) (s : State (Unit {0}) CreditView) (r : IsShownCred
   observes_by : m.0.phase ≡ Some tt → Outcome (λ x. x) (Observed key m)
   observes_by phase =
       let t = observes (credit_object key) s r id name m at one (lawful key) tt phase count_place (FoundValue key (slice_index s.words count_place)) found_now in
-      (sight m.0.names r.core tt m.0.left, keeps, tt, t.0, λ other e. t.1)
+      (sight m.0.names m.0.noted r.core tt m.0.left, keeps, tt, t.0, λ other e. t.1)
 
 module _ (key : CreditLimits) (slots id name : ℕ) (m : CreditHolder) (one : m.0.names ≡ name ∷ []) where
   pub debits_allowed : 0 < m.0.left → Allows (IsShownCredit key) slots id m count_place (λ x. (x + (2 ^ 64 - 1)) % 2 ^ 64) (MadeMark key Debit m)

@@ -1,5 +1,5 @@
 -- From the steps of a room's seat to what the calls promise.
-use Rattle.fak_count.proofs.Common.{◌≡◌, ℕ, ◌+◌, ◌<◌, ◌≤◌, List, [], ◌∷◌, ◌++◌, length, refl, ap, sym, ◌∙◌, subst, arith, ℤ, pos, ◌-ℤ◌, reverse, map, sum_by, flat_map, ints, sum_by-append, sum_by-cons, marks_of, sight, ObjectId, object_id, SeatInfo, seat_info, TallyInfo, IsJoined, Appends, before_mark, before_appended, IsSeatToken, bias, Up, Over, Back, No, Release, rest_after, rest_joined, rest_none, begins_self, seen_lawful, token_names, mine_after, begins_after, step_appends, token_after, step_before, appends_then, appends_none, Idle, Adding, Backing, RoomHolder, room_mark, LeavesRoom, Tested, Added, Lowered, TableId, RoomKind, RoomMark, releases_le, RoomLimits}
+use Rattle.fak_count.proofs.Common.{◌≡◌, Some, ℕ, ◌+◌, ◌<◌, ◌≤◌, List, [], ◌∷◌, ◌++◌, length, refl, ap, sym, ◌∙◌, subst, arith, ℤ, pos, ◌-ℤ◌, reverse, map, sum_by, flat_map, ints, sum_by-append, sum_by-cons, marks_of, sight, ObjectId, object_id, SeatInfo, seat_info, TallyInfo, IsJoined, Appends, before_mark, before_appended, IsSeatToken, bias, Up, Over, Back, No, Release, rest_after, rest_joined, rest_none, begins_self, seen_lawful, token_names, mine_after, begins_after, step_appends, token_after, step_before, appends_then, appends_none, Idle, Adding, Backing, RoomHolder, room_mark, LeavesRoom, Tested, Added, Lowered, TableId, RoomKind, RoomMark, releases_le, RoomLimits}
 use Rattle.std.proofs.lemmas.List.{append-nil, map-append}
 use Rattle.fak_model.specs.Room.{WholeCall, kinds_of_call, seat_of, kind_of, up_amount, release_amount, value, amount_held, room_rules}
 use Rattle.fak_model.proofs.Appending.{history_none}
@@ -227,7 +227,7 @@ module _ {key : RoomLimits} {left seats name held : ℕ} {table mine : TableId} 
       record { appends = appends_at did left (omega arith); answers = answers_at did left answer answer_is }
 
 -- a seat as it is dealt
-pub fresh_room_seat : (object : ObjectId) (name stint : ℕ) (m : RoomHolder) → m ≡ (sight (name ∷ []) [] Idle 0, []) → room_seat object name stint m ≡ seat_info object name stint []
+pub fresh_room_seat : (object : ObjectId) (name stint : ℕ) (m : RoomHolder) → m ≡ (sight (name ∷ []) (Some []) [] Idle 0, []) → room_seat object name stint m ≡ seat_info object name stint []
 fresh_room_seat object name stint m is =
     let full : stint + 0 ≡ stint = omega arith in
     ap (λ (x : RoomHolder). room_seat object name stint x) is ∙ ap (λ (k : ℕ). seat_info object name k []) full

@@ -60,7 +60,7 @@ module _ (key : RoomLimits) (s : State (Unit {0}) RoomView) (r : IsShownRoom key
     after = moved s0 name mv
 
     abbrev view_after : RoomView
-    view_after = sight m.0.names (marks_left name mv.mark ++ r.core.past) mv.seat.phase 0
+    view_after = sight m.0.names m.0.noted (marks_left name mv.mark ++ r.core.past) mv.seat.phase 0
 
     after_reached : IsReachedRoom key after
     after_reached = record { reached = reached_move key.bound key.seats s0 name x mv reached here next; low = r.reached.low; few = r.reached.few }
@@ -138,14 +138,14 @@ module _ (key : RoomLimits) (s : State (Unit {0}) RoomView) (r : IsShownRoom key
           let mv : RoomMove = test_move true r.core.count at_rest.holding d in
           let near = fits_found d e in
           let t = goes_on (begun r.core name claiming) claiming mv claim_reached refl claim_others claim_here (ap (λ b. Some (test_move b r.core.count at_rest.holding d)) e) (λ x. x) r.encoded.count_is in
-          (sight m.0.names r.core.past (Adding d) 0, keeps, tt, t.0, record { small = word_fits.1; fits = λ other e near. t.1; full = λ other e far. absurd (omega (arith, near, far)) })
+          (sight m.0.names m.0.noted r.core.past (Adding d) 0, keeps, tt, t.0, record { small = word_fits.1; fits = λ other e near. t.1; full = λ other e far. absurd (omega (arith, near, far)) })
 
       test_refuses : fits r.core.bound r.core.count d ≡ false → Outcome (λ x. x) (Tested key d m)
       test_refuses e =
           let mv : RoomMove = test_move false r.core.count at_rest.holding d in
           let far = full_found d e in
           let t = goes_on (begun r.core name claiming) claiming mv claim_reached refl claim_others claim_here (ap (λ b. Some (test_move b r.core.count at_rest.holding d)) e) (λ x. x) r.encoded.count_is in
-          let w : RoomView = sight m.0.names (room_mark name (No d) ∷ r.core.past) Idle 0 in (
+          let w : RoomView = sight m.0.names m.0.noted (room_mark name (No d) ∷ r.core.past) Idle 0 in (
             w,
             keeps,
             tt,
@@ -177,7 +177,7 @@ module _ (key : RoomLimits) (s : State (Unit {0}) RoomView) (r : IsShownRoom key
           let reached : IsReached key.bound key.seats (begun r.core name releasing) = reached_begin key.bound key.seats r.core name x (Release d) (Releasing d) r.reached.reached at_rest.seat range may in
           let t = goes_on (begun r.core name releasing) releasing (release_move r.core.count at_rest.holding d) reached refl (λ k y ne old. written_stays r.core.seats name k releasing y ne old)
           (written_here r.core.seats name releasing within) refl (λ x. (x + (2 ^ 64 - d)) % 2 ^ 64) lowered in
-          let w : RoomView = sight m.0.names (room_mark name (GivenBack d) ∷ r.core.past) Idle 0 in
+          let w : RoomView = sight m.0.names m.0.noted (room_mark name (GivenBack d) ∷ r.core.past) Idle 0 in
           (w, keeps, tt, t.0, record { small = word_fits.1; leaves = λ other e. subst (λ (n : ℕ). LeavesRoom key m (slice_index s.words count_place) (room_mark n (GivenBack d) ∷ []) Idle (w, m.1)) (same_name other e) t.1 })
 
     -- ---- an add
@@ -199,7 +199,7 @@ module _ (key : RoomLimits) (s : State (Unit {0}) RoomView) (r : IsShownRoom key
           let next : next_move r.core.bound r.core.count at_add.holding (Adding d) ≡ Some mv = ap (λ b. Some (add_move b r.core.count at_add.holding d)) e in
           let t = goes_on r.core adder mv r.reached.reached refl stays_else at_add.seat next (λ x. (x + d) % 2 ^ 64) raised in
           let held = holds_after r.core adder mv r.reached.reached refl stays_else at_add.seat next in
-          let w : RoomView = sight m.0.names (room_mark name (Up d) ∷ r.core.past) Idle 0 in (
+          let w : RoomView = sight m.0.names m.0.noted (room_mark name (Up d) ∷ r.core.past) Idle 0 in (
             w,
             keeps,
             tt,
@@ -216,7 +216,7 @@ module _ (key : RoomLimits) (s : State (Unit {0}) RoomView) (r : IsShownRoom key
           let mv : RoomMove = add_move false r.core.count at_add.holding d in
           let far = full_found d e in
           let t = goes_on r.core adder mv r.reached.reached refl stays_else at_add.seat (ap (λ b. Some (add_move b r.core.count at_add.holding d)) e) (λ x. (x + d) % 2 ^ 64) raised in
-          let w : RoomView = sight m.0.names (room_mark name (Over d) ∷ r.core.past) (Backing d) 0 in (
+          let w : RoomView = sight m.0.names m.0.noted (room_mark name (Over d) ∷ r.core.past) (Backing d) 0 in (
             w,
             keeps,
             tt,
@@ -242,7 +242,7 @@ module _ (key : RoomLimits) (s : State (Unit {0}) RoomView) (r : IsShownRoom key
       backs_by =
           let x : CoreSeat = record { held = at_back.holding; phase = Backing d } in
           let t = goes_on r.core x (back_move r.core.count at_back.holding d) r.reached.reached refl (λ k y ne old. old) at_back.seat refl (λ x. (x + (2 ^ 64 - d)) % 2 ^ 64) lowered in
-          let w : RoomView = sight m.0.names (room_mark name (Back d) ∷ r.core.past) Idle 0 in
+          let w : RoomView = sight m.0.names m.0.noted (room_mark name (Back d) ∷ r.core.past) Idle 0 in
           (w, keeps, tt, t.0, record { small = word_fits.1; leaves = λ other e. subst (λ (n : ℕ). LeavesRoom key m (slice_index s.words count_place) (room_mark n (Back d) ∷ []) Idle (w, m.1)) (same_name other e) t.1 })
 
 module _ (key : RoomLimits) (slots id name d : ℕ) (m : RoomHolder) (one : m.0.names ≡ name ∷ []) (range : (1 ≤ d) × (d ≤ 1024)) where

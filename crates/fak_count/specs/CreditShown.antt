@@ -31,7 +31,7 @@ credit_object key = record {
   past_of = λ past. past;
   IsReached = λ past. IsCount key.start × (key.seats * key.stint ≤ 1125899906842624);
   StandsAt = λ past name phase. Unit {0};
-  Encodes = λ past words homes. KeepsCount (value key.start (reverse past)) words;
+  Encodes = λ past notes words homes. KeepsCount (value key.start (reverse past)) words;
 }
 
 abbrev pub IsShownCredit : CreditLimits → State (Unit {0}) CreditView → Type 0

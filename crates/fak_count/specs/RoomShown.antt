@@ -47,7 +47,7 @@ room_object key = record {
   past_of = λ s. s.past;
   IsReached = IsReachedRoom key;
   StandsAt = StandsInRoom;
-  Encodes = λ s words homes. KeepsCount s.count words;
+  Encodes = λ s notes words homes. KeepsCount s.count words;
 }
 
 abbrev pub IsShownRoom : RoomLimits → State (Unit {0}) RoomView → Type 0

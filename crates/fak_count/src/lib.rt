@@ -14,7 +14,7 @@
 //! - To cite: `IsGranted`, `IsRefused`, `MakesCall` (`specs/Rooms.antt`, `specs/Credits.antt`), and the laws of
 //!   `fak_model::laws::room` and `credit`.
 //!
-//! `docs/CALLING.md` is the guide for callers.
+//! `docs/GUIDE.md` is the guide for callers.
 
 mod credits;
 mod fault;

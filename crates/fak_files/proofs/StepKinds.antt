@@ -34,7 +34,7 @@ module _ (table : FileLimits) (s : State (Unit {0}) FileView) (r : IsShownFile t
   Step i f then = (w : FileView) × (a : Act (Unit {0})) × Valid s.homes m.1 a × IsShownFile table (stepped s i (f (slice_index s.words i)) id m.1 w a) × then (slice_index s.words i) (w, carried_after m.1 a)
 
   abbrev after : List FileMark → FilePhase → FileView
-  after new phase = sight m.0.names (new ++ r.core) phase 0
+  after new phase = sight m.0.names m.0.noted (new ++ r.core) phase 0
 
   -- a step with one mark on word i
   leaves : (kind : FileKind) (phase : FilePhase) (i w : ℕ) → GoesOn table.seats h n kind phase → ShowsHistory table (h ++ mark n kind ∷ []) (set s.words i w) → (tells : List FileMark → Type 0) → tells r.core

@@ -49,7 +49,7 @@ file_object table = record {
   past_of = λ past. past;
   IsReached = λ past. IsFileHistory table.seats (reverse past);
   StandsAt = λ past name phase. StandsIn table.seats (words_by seat_of kind_of name (reverse past)) phase;
-  Encodes = λ past words homes. ShowsHistory table (reverse past) words;
+  Encodes = λ past notes words homes. ShowsHistory table (reverse past) words;
 }
 
 abbrev pub IsShownFile : FileLimits → State (Unit {0}) FileView → Type 0

@@ -13,7 +13,7 @@
 //!   something, or as a writer.
 //! - To cite: `IsGranted`, `IsGot`, `IsSet`, `IsEnded` (`specs/Calls.antt`), and the laws, such as `a_writer_is_alone`.
 //!
-//! `docs/CALLING.md` is the guide for callers.
+//! `docs/GUIDE.md` is the guide for callers.
 
 mod admission;
 mod ending;

@@ -9,7 +9,7 @@ use Rattle.fak_model.specs.Calls.{ObjectId, SeatInfo, seat_info, fresh_seats}
 use Rattle.fak_queue.specs.Queues.{QueueInfo, IsIdleSeat}
 use Rattle.fak_handles.specs.bundle.Opening.{IsFreshBundle, IsOpenedWithBundles}
 use Rattle.fak_handles.specs.Openings.{AreSeatedBelow, IsFreshQueue}
-use Rattle.fak_handles.specs.declared.place.Place.{Place}
+use Rattle.fak_handles.specs.declared.padded_handle.PaddedHandle.{PaddedHandle}
 
 -- the first seats of those that are named from here on, and the others
 pub record AreDealt {M : Type 0} (object : ObjectId) (stint first all : ℕ) (own rest : List (SeatInfo M)) : Type 0 where
@@ -64,13 +64,13 @@ first_dealt {M} own rest all object stint n n' more are is many same =
     )
 
 -- all handles have their seats
-module _ {size stint width n m : ℕ} {places others : List Place} where
-  pub opened_bundles : (made shared : QueueInfo) → shared ≡ made → made.size ≡ size → made.object.seats ≡ length places + length others * width → length places ≡ n → length others ≡ m
-      → AreSeatedBelow (IsFreshQueue shared stint) n places → AreSeatedBelow (IsFreshBundle shared stint n width) m others → IsOpenedWithBundles size stint width places others
+module _ {size stint width n m : ℕ} {handles others : List PaddedHandle} where
+  pub opened_bundles : (made shared : QueueInfo) → shared ≡ made → made.size ≡ size → made.object.seats ≡ length handles + length others * width → length handles ≡ n → length others ≡ m
+      → AreSeatedBelow (IsFreshQueue shared stint) n handles → AreSeatedBelow (IsFreshBundle shared stint n width) m others → IsOpenedWithBundles size stint width handles others
   opened_bundles made shared is value many one two seated bundled = record {
     queue = shared;
     size_is = ap (λ q. q.size) is ∙ value;
     seats_are = ap (λ q. q.object.seats) is ∙ many;
-    seated = subst (λ k. AreSeatedBelow (IsFreshQueue shared stint) k places) (sym one) seated;
+    seated = subst (λ k. AreSeatedBelow (IsFreshQueue shared stint) k handles) (sym one) seated;
     bundled = subst (λ k. AreSeatedBelow (IsFreshBundle shared stint k width) (length others) others) (sym one) (subst (λ k. AreSeatedBelow (IsFreshBundle shared stint n width) k others) (sym two) bundled);
   }

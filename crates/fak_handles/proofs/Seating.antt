@@ -12,13 +12,13 @@ use Rattle.fak_handles.specs.Openings.{IsFreshQueue, IsFreshRoom, IsFreshCredit,
 use Rattle.fak_channel.specs.declared.channel.Channel.{Channel}
 use Rattle.fak_handles.specs.declared.channel.seat.Item.{Item}
 use Rattle.fak_handles.specs.declared.desk.Desk.{Desk}
-use Rattle.fak_handles.specs.declared.place.Place.{Place}
+use Rattle.fak_handles.specs.declared.padded_handle.PaddedHandle.{PaddedHandle}
 
 -- one handle more has its seat
-pub seated_next : (IsFresh : ℕ → Desk → Type 0) (n : ℕ) (places : List Place) (p : Place) → n < length places → AreSeatedBelow IsFresh n places → HasSeat IsFresh n p → AreSeatedBelow IsFresh (n + 1) (slice_set places n p)
-seated_next IsFresh n places p inside below has name d low = elim (cases_eq name n) [
-  | inl e ↦ subst (λ k. HasSeat IsFresh k (slice_index_or (slice_set places n p) k d)) (sym e) (subst (HasSeat IsFresh n) (sym (get_or-set_same places n p d inside)) has)
-  | inr other ↦ subst (HasSeat IsFresh name) (sym (get_or-set_other places n name p d other)) (below name d (let lt : name < n = search (arith, low, other) in lt))
+pub seated_next : (IsFresh : ℕ → Desk → Type 0) (n : ℕ) (handles : List PaddedHandle) (p : PaddedHandle) → n < length handles → AreSeatedBelow IsFresh n handles → HasSeat IsFresh n p → AreSeatedBelow IsFresh (n + 1) (slice_set handles n p)
+seated_next IsFresh n handles p inside below has name d low = elim (cases_eq name n) [
+  | inl e ↦ subst (λ k. HasSeat IsFresh k (slice_index_or (slice_set handles n p) k d)) (sym e) (subst (HasSeat IsFresh n) (sym (get_or-set_same handles n p d inside)) has)
+  | inr other ↦ subst (HasSeat IsFresh name) (sym (get_or-set_other handles n name p d other)) (below name d (let lt : name < n = search (arith, low, other) in lt))
 ]
 
 -- the first of the seats of a table from this name on, and the others
@@ -56,54 +56,54 @@ next_sem {T} {object} {stint} {name} {seats} {items} {rest} {x} below are is =
 
 -- ---- an object all of whose seats have handles
 
-module _ {stint n : ℕ} {places : List Place} (len : length places ≡ n) where
-  pub opened_queue : {size : ℕ} (made shared : QueueInfo) → shared ≡ made → made.size ≡ size → made.object.seats ≡ n → AreSeatedBelow (IsFreshQueue shared stint) n places → IsOpenedQueue size stint places
+module _ {stint n : ℕ} {handles : List PaddedHandle} (len : length handles ≡ n) where
+  pub opened_queue : {size : ℕ} (made shared : QueueInfo) → shared ≡ made → made.size ≡ size → made.object.seats ≡ n → AreSeatedBelow (IsFreshQueue shared stint) n handles → IsOpenedQueue size stint handles
   opened_queue {size} made shared is value seats seated = record {
     queue = shared;
     size_is = ap (λ q. q.size) is ∙ value;
     seats_are = ap (λ q. q.object.seats) is ∙ (seats ∙ sym len);
-    seated = subst (λ k. AreSeatedBelow (IsFreshQueue shared stint) k places) (sym len) seated;
+    seated = subst (λ k. AreSeatedBelow (IsFreshQueue shared stint) k handles) (sym len) seated;
   }
 
-  pub opened_room : {bound : ℕ} (made shared : RoomInfo) → shared ≡ made → made.bound ≡ bound → made.object.seats ≡ n → AreSeatedBelow (IsFreshRoom shared stint) n places → IsOpenedRoom bound stint places
+  pub opened_room : {bound : ℕ} (made shared : RoomInfo) → shared ≡ made → made.bound ≡ bound → made.object.seats ≡ n → AreSeatedBelow (IsFreshRoom shared stint) n handles → IsOpenedRoom bound stint handles
   opened_room {bound} made shared is value seats seated = record {
     room = shared;
     bound_is = ap (λ q. q.bound) is ∙ value;
     seats_are = ap (λ q. q.object.seats) is ∙ (seats ∙ sym len);
-    seated = subst (λ k. AreSeatedBelow (IsFreshRoom shared stint) k places) (sym len) seated;
+    seated = subst (λ k. AreSeatedBelow (IsFreshRoom shared stint) k handles) (sym len) seated;
   }
 
-  pub opened_credit : {start : ℕ} (made shared : CreditInfo) → shared ≡ made → made.start ≡ start → made.object.seats ≡ n → AreSeatedBelow (IsFreshCredit shared stint) n places → IsOpenedCredit start stint places
+  pub opened_credit : {start : ℕ} (made shared : CreditInfo) → shared ≡ made → made.start ≡ start → made.object.seats ≡ n → AreSeatedBelow (IsFreshCredit shared stint) n handles → IsOpenedCredit start stint handles
   opened_credit {start} made shared is value seats seated = record {
     credit = shared;
     start_is = ap (λ q. q.start) is ∙ value;
     seats_are = ap (λ q. q.object.seats) is ∙ (seats ∙ sym len);
-    seated = subst (λ k. AreSeatedBelow (IsFreshCredit shared stint) k places) (sym len) seated;
+    seated = subst (λ k. AreSeatedBelow (IsFreshCredit shared stint) k handles) (sym len) seated;
   }
 
-  pub opened_table : {entries : ℕ} (made shared : FileTableInfo) → shared ≡ made → made.entries ≡ entries → made.object.seats ≡ n → AreSeatedBelow (IsFreshFile shared stint) n places → IsOpenedTable entries stint places
+  pub opened_table : {entries : ℕ} (made shared : FileTableInfo) → shared ≡ made → made.entries ≡ entries → made.object.seats ≡ n → AreSeatedBelow (IsFreshFile shared stint) n handles → IsOpenedTable entries stint handles
   opened_table {entries} made shared is value seats seated = record {
     table = shared;
     entries_are = ap (λ q. q.entries) is ∙ value;
     seats_are = ap (λ q. q.object.seats) is ∙ (seats ∙ sym len);
-    seated = subst (λ k. AreSeatedBelow (IsFreshFile shared stint) k places) (sym len) seated;
+    seated = subst (λ k. AreSeatedBelow (IsFreshFile shared stint) k handles) (sym len) seated;
   }
 
-  pub opened_semaphore : {start size : ℕ} (made shared : SemInfo) → shared ≡ made → made.object.start ≡ start → made.size ≡ size → seats_of made.object ≡ n → AreSeatedBelow (IsFreshSem shared stint) n places → IsOpenedSem start size stint places
+  pub opened_semaphore : {start size : ℕ} (made shared : SemInfo) → shared ≡ made → made.object.start ≡ start → made.size ≡ size → seats_of made.object ≡ n → AreSeatedBelow (IsFreshSem shared stint) n handles → IsOpenedSem start size stint handles
   opened_semaphore made shared is start size seats seated = record {
     sem = shared;
     start_is = ap (λ q. q.object.start) is ∙ start;
     size_is = ap (λ q. q.size) is ∙ size;
     seats_are = ap (λ q. seats_of q.object) is ∙ (seats ∙ sym len);
-    seated = subst (λ k. AreSeatedBelow (IsFreshSem shared stint) k places) (sym len) seated;
+    seated = subst (λ k. AreSeatedBelow (IsFreshSem shared stint) k handles) (sym len) seated;
   }
 
-  pub opened_channel : {size : ℕ} (made shared : Channel Item) → shared ≡ made → made.queue.size ≡ size → made.queue.object.seats ≡ n → made.items.start ≡ 0 → made.cells.start ≡ size → AreSeatedBelow (IsFreshChannel shared stint) n places → IsOpenedChannel size stint places
+  pub opened_channel : {size : ℕ} (made shared : Channel Item) → shared ≡ made → made.queue.size ≡ size → made.queue.object.seats ≡ n → made.items.start ≡ 0 → made.cells.start ≡ size → AreSeatedBelow (IsFreshChannel shared stint) n handles → IsOpenedChannel size stint handles
   opened_channel made shared is size seats none all seated = record {
     channel = shared;
     size_is = ap (λ (c : Channel Item). c.queue.size) is ∙ size;
     seats_are = ap (λ (c : Channel Item). c.queue.object.seats) is ∙ (seats ∙ sym len);
     no_item = ap (λ (c : Channel Item). c.items.start) is ∙ none;
     all_cells = ap (λ (c : Channel Item). c.cells.start) is ∙ all;
-    seated = subst (λ k. AreSeatedBelow (IsFreshChannel shared stint) k places) (sym len) seated;
+    seated = subst (λ k. AreSeatedBelow (IsFreshChannel shared stint) k handles) (sym len) seated;
   }

@@ -21,31 +21,31 @@ use Rattle.fak_channel.specs.declared.standing.CallStanding.TheVariants as stand
 use Rattle.fak_handles.specs.declared.channel.seat.Item.{Item}
 use Rattle.fak_handles.specs.declared.desk.Desk.{Desk}
 use Rattle.fak_handles.specs.declared.desk.Desk.TheVariants.{Queue, Semaphore, Room, Credit, Files, Channel, Bundle}
-use Rattle.fak_handles.specs.declared.place.Place.{Place}
+use Rattle.fak_handles.specs.declared.padded_handle.PaddedHandle.{PaddedHandle}
 
 -- the handles below this index are empty
-abbrev pub AreEmptyBelow : ℕ → List Place → Type 0
-AreEmptyBelow n places = (i : ℕ) (d : Place) → i < n → (slice_index_or places i d).handle.desk ≡ None
+abbrev pub AreEmptyBelow : ℕ → List PaddedHandle → Type 0
+AreEmptyBelow n handles = (i : ℕ) (d : PaddedHandle) → i < n → (slice_index_or handles i d).handle.desk ≡ None
 
-abbrev pub AreEmpty : List Place → Type 0
-AreEmpty places = AreEmptyBelow (length places) places
+abbrev pub AreEmpty : List PaddedHandle → Type 0
+AreEmpty handles = AreEmptyBelow (length handles) handles
 
 -- the handle has the seat of this name, as it was opened
-pub record HasSeat (IsFresh : ℕ → Desk → Type 0) (name : ℕ) (p : Place) : Type 0 where
+pub record HasSeat (IsFresh : ℕ → Desk → Type 0) (name : ℕ) (p : PaddedHandle) : Type 0 where
   pub desk : Desk
   pub held : p.handle.desk ≡ Some desk
   pub fresh : IsFresh name desk
 
 -- the handles below this index have the seats named by their indexes
-abbrev pub AreSeatedBelow : (ℕ → Desk → Type 0) → ℕ → List Place → Type 0
-AreSeatedBelow IsFresh n places = (name : ℕ) (d : Place) → name < n → HasSeat IsFresh name (slice_index_or places name d)
+abbrev pub AreSeatedBelow : (ℕ → Desk → Type 0) → ℕ → List PaddedHandle → Type 0
+AreSeatedBelow IsFresh n handles = (name : ℕ) (d : PaddedHandle) → name < n → HasSeat IsFresh name (slice_index_or handles name d)
 
 -- the object was opened, or a number is out of range, or there was no memory; a failed call leaves all handles empty
-abbrev pub Opens : ℤ → Type 0 → Type 0 → List Place → Type 0
-Opens code InRange Opened places =
+abbrev pub Opens : ℤ → Type 0 → Type 0 → List PaddedHandle → Type 0
+Opens code InRange Opened handles =
     ((code ≡ pos 0) × InRange × Opened)
-    ⊎ ((code ≡ pos 8) × ¬ InRange × AreEmpty places)
-    ⊎ ((code ≡ pos 9) × InRange × AreEmpty places)
+    ⊎ ((code ≡ pos 8) × ¬ InRange × AreEmpty handles)
+    ⊎ ((code ≡ pos 9) × InRange × AreEmpty handles)
 
 -- ---- the seats of each kind, as they are opened
 
@@ -106,64 +106,64 @@ IsFreshChannel channel stint name (Bundle d) = ⊥
 
 -- ---- each kind of object, as it is opened: each handle has a seat of one object
 
-pub record IsOpenedQueue (size stint : ℕ) (places : List Place) : Type 0 where
+pub record IsOpenedQueue (size stint : ℕ) (handles : List PaddedHandle) : Type 0 where
   pub queue : QueueInfo
   pub size_is : queue.size ≡ size
-  pub seats_are : queue.object.seats ≡ length places
-  pub seated : AreSeatedBelow (IsFreshQueue queue stint) (length places) places
+  pub seats_are : queue.object.seats ≡ length handles
+  pub seated : AreSeatedBelow (IsFreshQueue queue stint) (length handles) handles
 
-pub record IsOpenedRoom (bound stint : ℕ) (places : List Place) : Type 0 where
+pub record IsOpenedRoom (bound stint : ℕ) (handles : List PaddedHandle) : Type 0 where
   pub room : RoomInfo
   pub bound_is : room.bound ≡ bound
-  pub seats_are : room.object.seats ≡ length places
-  pub seated : AreSeatedBelow (IsFreshRoom room stint) (length places) places
+  pub seats_are : room.object.seats ≡ length handles
+  pub seated : AreSeatedBelow (IsFreshRoom room stint) (length handles) handles
 
-pub record IsOpenedCredit (start stint : ℕ) (places : List Place) : Type 0 where
+pub record IsOpenedCredit (start stint : ℕ) (handles : List PaddedHandle) : Type 0 where
   pub credit : CreditInfo
   pub start_is : credit.start ≡ start
-  pub seats_are : credit.object.seats ≡ length places
-  pub seated : AreSeatedBelow (IsFreshCredit credit stint) (length places) places
+  pub seats_are : credit.object.seats ≡ length handles
+  pub seated : AreSeatedBelow (IsFreshCredit credit stint) (length handles) handles
 
-pub record IsOpenedTable (entries stint : ℕ) (places : List Place) : Type 0 where
+pub record IsOpenedTable (entries stint : ℕ) (handles : List PaddedHandle) : Type 0 where
   pub table : FileTableInfo
   pub entries_are : table.entries ≡ entries
-  pub seats_are : table.object.seats ≡ length places
-  pub seated : AreSeatedBelow (IsFreshFile table stint) (length places) places
+  pub seats_are : table.object.seats ≡ length handles
+  pub seated : AreSeatedBelow (IsFreshFile table stint) (length handles) handles
 
-pub record IsOpenedSem (start size stint : ℕ) (places : List Place) : Type 0 where
+pub record IsOpenedSem (start size stint : ℕ) (handles : List PaddedHandle) : Type 0 where
   pub sem : SemInfo
   pub start_is : sem.object.start ≡ start
   pub size_is : sem.size ≡ size
-  pub seats_are : seats_of sem.object ≡ length places
-  pub seated : AreSeatedBelow (IsFreshSem sem stint) (length places) places
+  pub seats_are : seats_of sem.object ≡ length handles
+  pub seated : AreSeatedBelow (IsFreshSem sem stint) (length handles) handles
 
-pub record IsOpenedChannel (size stint : ℕ) (places : List Place) : Type 0 where
+pub record IsOpenedChannel (size stint : ℕ) (handles : List PaddedHandle) : Type 0 where
   pub channel : ChannelInfo Item
   pub size_is : channel.queue.size ≡ size
-  pub seats_are : channel.queue.object.seats ≡ length places
+  pub seats_are : channel.queue.object.seats ≡ length handles
   pub no_item : channel.items.start ≡ 0
   pub all_cells : channel.cells.start ≡ size
-  pub seated : AreSeatedBelow (IsFreshChannel channel stint) (length places) places
+  pub seated : AreSeatedBelow (IsFreshChannel channel stint) (length handles) handles
 
-abbrev pub OpensQueue : ℤ → ℕ → ℕ → List Place → Type 0
-OpensQueue code size stint places = Opens code (IsInLargeRange (IsLargeSize size) (length places) stint) (IsOpenedQueue size stint places) places
+abbrev pub OpensQueue : ℤ → ℕ → ℕ → List PaddedHandle → Type 0
+OpensQueue code size stint handles = Opens code (IsInLargeRange (IsLargeSize size) (length handles) stint) (IsOpenedQueue size stint handles) handles
 
-abbrev pub OpensRoom : ℤ → ℕ → ℕ → List Place → Type 0
-OpensRoom code bound stint places = Opens code (IsInLargeRange (IsCount bound) (length places) stint) (IsOpenedRoom bound stint places) places
+abbrev pub OpensRoom : ℤ → ℕ → ℕ → List PaddedHandle → Type 0
+OpensRoom code bound stint handles = Opens code (IsInLargeRange (IsCount bound) (length handles) stint) (IsOpenedRoom bound stint handles) handles
 
-abbrev pub OpensCredit : ℤ → ℕ → ℕ → List Place → Type 0
-OpensCredit code start stint places = Opens code (IsInLargeRange (IsCount start) (length places) stint) (IsOpenedCredit start stint places) places
+abbrev pub OpensCredit : ℤ → ℕ → ℕ → List PaddedHandle → Type 0
+OpensCredit code start stint handles = Opens code (IsInLargeRange (IsCount start) (length handles) stint) (IsOpenedCredit start stint handles) handles
 
-abbrev pub OpensTable : ℤ → ℕ → ℕ → List Place → Type 0
-OpensTable code entries stint places = Opens code (IsInLargeRange (IsNumberOfEntries entries) (length places) stint) (IsOpenedTable entries stint places) places
+abbrev pub OpensTable : ℤ → ℕ → ℕ → List PaddedHandle → Type 0
+OpensTable code entries stint handles = Opens code (IsInLargeRange (IsNumberOfEntries entries) (length handles) stint) (IsOpenedTable entries stint handles) handles
 
-abbrev pub OpensSem : ℤ → ℕ → ℕ → ℕ → List Place → Type 0
-OpensSem code start size stint places = Opens code (IsInLargeRange (AreLargeSizes start size) (length places) stint) (IsOpenedSem start size stint places) places
+abbrev pub OpensSem : ℤ → ℕ → ℕ → ℕ → List PaddedHandle → Type 0
+OpensSem code start size stint handles = Opens code (IsInLargeRange (AreLargeSizes start size) (length handles) stint) (IsOpenedSem start size stint handles) handles
 
-abbrev pub OpensChannel : ℤ → ℕ → ℕ → List Place → Type 0
-OpensChannel code size stint places = Opens code (IsInLargeRange (IsLargeSize size) (length places) stint) (IsOpenedChannel size stint places) places
+abbrev pub OpensChannel : ℤ → ℕ → ℕ → List PaddedHandle → Type 0
+OpensChannel code size stint handles = Opens code (IsInLargeRange (IsLargeSize size) (length handles) stint) (IsOpenedChannel size stint handles) handles
 
 -- an object may have this many handles, and the call opens them or returns why not; or it may not, and the call keeps them
-abbrev pub OpensOrKeeps : ℤ → List Place → List Place → Type 0 → Type 0
+abbrev pub OpensOrKeeps : ℤ → List PaddedHandle → List PaddedHandle → Type 0 → Type 0
 OpensOrKeeps code old new IsAnswered =
     (IsLargeNumberOfSeats (length old) → IsAnswered) × (¬ IsLargeNumberOfSeats (length old) → (code ≡ pos 8) × (new ≡ old))

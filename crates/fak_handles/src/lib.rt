@@ -1,5 +1,5 @@
-//! What the library for C is made of: places for a handle, which owns a seat of any kind with a share of its object. A place lends its
-//! seat to a call, whose result becomes a code. No call waits.
+//! What the library for C is made of: handles, each of which owns a seat of any kind with a share of its object. A handle lends its seat
+//! to a call, whose result becomes a code. No call waits.
 #![tactic(auto)]
 
 pub mod bundle;
@@ -10,8 +10,8 @@ pub mod desk;
 pub mod files;
 pub mod handle;
 pub mod opening;
+pub mod padded_handle;
 mod parts;
-pub mod place;
 pub mod queue;
 pub mod room;
 pub mod semaphore;

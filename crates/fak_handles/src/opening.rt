@@ -4,7 +4,7 @@ ghost use Rattle.std.specs.Prelude.{◌≡◌, length, MatchBool};
 ghost use Rattle.fak_model.specs.Limits.{IsLargeNumberOfSeats};
 ghost use Rattle.fak_handles.specs.Openings.{AreEmpty};
 
-use crate::place::Place;
+use crate::padded_handle::PaddedHandle;
 use fak_model::LARGE_SEATS;
 use std::alloc::Global;
 
@@ -16,11 +16,11 @@ pub fn is_number_of_seats(count: usize) -> bool
 }
 
 /// Empties all handles.
-pub(crate) fn clear(alloc: Global, places: &mut [Place])
-    ensures len { length places.new ≡ length places.old }
-    ensures empty { AreEmpty places.new }
+pub(crate) fn clear(alloc: Global, handles: &mut [PaddedHandle])
+    ensures len { length handles.new ≡ length handles.old }
+    ensures empty { AreEmpty handles.new }
 {
-    for i in 0..places.len() {
-        drop(places[i].take(alloc));
+    for i in 0..handles.len() {
+        drop(handles[i].take(alloc));
     }
 }

@@ -16,7 +16,7 @@
 //! - To cite: `Downs`, `Ups`, `CountsDown`, `CountsUp` (`specs/Semaphores.antt`), and `IsSettled` at the close. Between the
 //!   steps of a call, `ParksSince` and `WakesSince` (`specs/Steps.antt`), which the last step turns into `Downs` or `Ups`.
 //!
-//! `docs/CALLING.md` is the guide for callers.
+//! `docs/GUIDE.md` is the guide for callers.
 
 mod claims;
 mod fault;

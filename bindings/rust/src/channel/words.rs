@@ -3,7 +3,8 @@
 use std::boxed::Box;
 use std::mem::{align_of, size_of, MaybeUninit};
 
-/// What a cell holds: an item of at most its size and alignment, or a box of it. Its owner knows which item it has.
+/// What a cell holds: an item of at most its size and alignment, or a box of it. Its owner knows which item it has. The padding of an
+/// item may stay uninitialised: the words are copied, and nothing reads them as numbers.
 #[repr(C)]
 pub struct Words([MaybeUninit<u64>; 4]);
 

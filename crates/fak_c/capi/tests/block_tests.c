@@ -97,7 +97,7 @@ static void each_width_is_opened(void) {
 
 /* ---- Parts: what the library asks for ---- */
 
-static void is_refused(size_t size, size_t align) {
+static void check_refused(size_t size, size_t align) {
     struct allocation made = rattle_alloc(size, align);
     CHECK(!made.found && made.at != NULL);
 }
@@ -114,13 +114,13 @@ static void parts_are_disjoint(void) {
         CHECK((uintptr_t)made[i] % 16 == 0 && made[i] >= memory + HEAD && made[i] + i <= memory + BYTES);
         memset(made[i], (int)i, i);
     }
-    is_refused(16, 32);
-    is_refused(BYTES, 16);
+    check_refused(16, 32);
+    check_refused(BYTES, 16);
     for (size_t less = 0; less <= 64; less++)
-        is_refused(SIZE_MAX - less, 16);
+        check_refused(SIZE_MAX - less, 16);
     CHECK(!rattle_realloc(made[1], 1, 2, 16).found);
     CHECK(fak_c_block_end() <= BYTES);
-    is_refused(16, 16);
+    check_refused(16, 16);
     for (size_t i = 0; i < SIZES; i++) {
         for (size_t byte = 0; byte < i; byte++)
             CHECK(made[i][byte] == i);

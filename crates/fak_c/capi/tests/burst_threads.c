@@ -127,10 +127,10 @@ static void *consume(void *argument) {
 }
 
 /* Under each ticket from `first` on is what was put there, and the items of each producer are in its order. */
-static void are_taken_as_put(const worker *producers, int count, uint64_t first, uint64_t total) {
+static void check_taken_as_put(const worker *producers, int count, uint64_t first, uint64_t total) {
     for (uint64_t ticket = first; ticket < first + total; ticket++)
         CHECK(producers[0].taken[ticket] == producers[0].put[ticket]);
-    are_in_order(producers, count, producers[0].taken, first, total);
+    check_order(producers, count, producers[0].taken, first, total);
 }
 
 /* Notes for this many tickets. */
@@ -188,7 +188,7 @@ void threads_share_a_queue_by_bursts(int pairs, uint64_t items) {
         start_all(workers, pairs, produce);
         start_all(workers + pairs, pairs, consume);
         CHECK(join_all(workers, pairs) == total && join_all(workers + pairs, pairs) == total);
-        are_taken_as_put(workers, pairs, 0, total);
+        check_taken_as_put(workers, pairs, 0, total);
         leave_all(seats, 2 * pairs);
         leave_all(bundles, 2 * pairs);
         free_notes(workers);
@@ -234,7 +234,7 @@ void a_shut_queue_is_drained_by_bursts(uint64_t items) {
     CHECK(join_all(workers + DRAIN_PAIRS, DRAIN_PAIRS) + self->count == put);
     CHECK(fak_c_insert_burst(&bundles[0], &put, 1, &ticket, &count) == FAK_C_CLOSED && ticket == 99 && count == 99);
     CHECK(fak_c_in_use(self->seat, &cells, &is_shut) == FAK_C_OK && cells == 0 && is_shut);
-    are_taken_as_put(workers, DRAIN_PAIRS, 0, put);
+    check_taken_as_put(workers, DRAIN_PAIRS, 0, put);
     leave_all(seats, DRAIN_PAIRS + 1);
     leave_all(bundles, 2 * DRAIN_PAIRS);
     free_notes(workers);
@@ -262,7 +262,7 @@ static void open_for_a_stop(uint64_t first) {
 }
 
 static void end_a_stop(uint64_t first) {
-    are_taken_as_put(others, OTHERS, first, PASSED);
+    check_taken_as_put(others, OTHERS, first, PASSED);
     leave_all(stand_seats, 2 * OTHERS + 2);
     leave_all(stand_bundles, 2 * OTHERS + 2);
     free_notes(others);
@@ -356,7 +356,7 @@ static uint64_t filled_memory(uint64_t number) {
     return (uintptr_t)words;
 }
 
-static void has_number(uint64_t at, uint64_t number) {
+static void check_number(uint64_t at, uint64_t number) {
     uint64_t *words = (uint64_t *)(uintptr_t)at;
     FAK_C_GETS(words);
     for (int i = 0; i < WORDS; i++)
@@ -407,7 +407,7 @@ void memory_is_handed_over_by_bursts(uint64_t items) {
             code = fak_c_try_take_burst(&bundles[1], at + taken, LOT - taken, &more, &left);
         CHECK(code == FAK_C_OK && taken == count);
         for (uint64_t i = 0; i < count; i++)
-            has_number(at[i], item++);
+            check_number(at[i], item++);
     }
     CHECK(pthread_join(self.thread, NULL) == 0);
     leave_all(bundles, 2);

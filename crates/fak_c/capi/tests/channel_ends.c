@@ -1,11 +1,11 @@
-/* Each code of each call of an end and of a shared channel, on one thread; and the allocations of an opening. The linker's --wrap sends
- * each allocation here. */
+/* Deadlines, worn stints, loans and functions of the caller's own, of ends and of a shared channel, on one thread; and the allocations of
+ * an opening. The files of rows/ have each code. The linker's --wrap sends each allocation here. */
 #include "channel_tests.h"
 #include "failing_heap.h"
 
 #include <string.h>
 
-enum { N = 4, STINT = 60 };
+enum { STINT = 60 };
 
 static const fak_channel_item seven = {{7, 8, 9, 10}};
 
@@ -20,94 +20,30 @@ static void leave_ends(fak_channel_end *ends, size_t n) {
         CHECK(fak_channel_leave(&ends[i]) == FAK_C_OK && ends[i].seat.at == NULL && fak_channel_leave(&ends[i]) == FAK_C_NO_SEAT);
 }
 
-static void openings_are_refused(void) {
-    static fak_channel_end ends[FAK_C_MOST_SEATS];
-    CHECK(fak_channel_open_ends(ends, 0, 1, 1) == FAK_C_BAD_LIMIT && fak_channel_open_ends(ends, 1025, 1, 1) == FAK_C_BAD_LIMIT);
-    CHECK(fak_channel_open_ends(ends, 1, 0, 1) == FAK_C_BAD_LIMIT && fak_channel_open_ends(ends, 1, 1, 0) == FAK_C_BAD_LIMIT);
-    CHECK(fak_channel_open_ends(ends, 1, FAK_C_MOST_CELLS + 1, 1) == FAK_C_BAD_LIMIT);
-    CHECK(fak_channel_open_ends(ends, 2, 1, FAK_C_MOST_CALLS / 2 + 1) == FAK_C_BAD_LIMIT && ends[0].seat.at == NULL);
-    CHECK(fak_channel_open_ends(ends, 1024, 3, FAK_C_MOST_CALLS / 1024) == FAK_C_OK);
-    CHECK(fak_channel_open_ends(ends, 1, 1, 1) == FAK_C_WRONG_STATE && ends[1023].number == 1023);
-    leave_ends(ends, 1024);
-}
-
-static void ends_pass_items(void) {
-    fak_channel_end ends[N] = {0};
-    fak_channel_item item = {{0}};
-    uint64_t items = 99, before = fak_channel_deadline(0);
-    CHECK(fak_channel_open_ends(ends, N, 2, STINT) == FAK_C_OK);
-    CHECK(fak_channel_send(&ends[0], &seven) == FAK_C_OK && fak_channel_try_send(&ends[1], &seven) == FAK_C_OK);
-    CHECK(fak_channel_try_send(&ends[1], &seven) == FAK_C_FULL);
-    CHECK(fak_channel_send_until(&ends[1], &seven, fak_channel_deadline(A_WHILE)) == FAK_C_GAVE_UP);
-    CHECK(fak_channel_deadline(0) - before >= A_WHILE && fak_channel_deadline(UINT64_MAX) == FAK_CHANNEL_NEVER);
-    CHECK(fak_channel_send_until(&ends[2], &seven, 0) == FAK_C_GAVE_UP);
-    CHECK(fak_channel_len(&ends[0].seat, &items) == FAK_C_OK && items == 2);
-    CHECK(fak_channel_receive(&ends[3], &item) == FAK_C_OK && are_equal(&item, &seven));
-    CHECK(fak_channel_send_until(&ends[2], &item, 0) == FAK_C_OK && fak_channel_receive_until(&ends[0], &item, 0) == FAK_C_OK);
-    CHECK(fak_channel_try_receive(&ends[0], &item) == FAK_C_OK && are_equal(&item, &seven));
-    item.word[0] = 1;
+/* A timed call gives up once its deadline has passed, and not before. */
+static void deadlines_pass(void) {
+    fak_channel_end ends[1] = {0};
+    fak_channel_item item = {{1}};
+    uint64_t before = fak_channel_deadline(0);
+    CHECK(fak_channel_open_ends(ends, 1, 1, STINT) == FAK_C_OK && fak_channel_deadline(UINT64_MAX) == FAK_CHANNEL_NEVER);
+    CHECK(fak_channel_receive_until(ends, &item, fak_channel_deadline(A_WHILE)) == FAK_C_GAVE_UP && item.word[0] == 1);
+    CHECK(fak_channel_deadline(0) - before >= A_WHILE && fak_channel_send(ends, &seven) == FAK_C_OK);
     before = fak_channel_deadline(0);
-    CHECK(fak_channel_try_receive(&ends[0], &item) == FAK_C_EMPTY && fak_channel_receive_until(&ends[0], &item, 1) == FAK_C_GAVE_UP);
-    CHECK(fak_channel_receive_until(&ends[0], &item, fak_channel_deadline(A_WHILE)) == FAK_C_GAVE_UP && item.word[0] == 1);
+    CHECK(fak_channel_send_until(ends, &seven, fak_channel_deadline(A_WHILE)) == FAK_C_GAVE_UP);
     CHECK(fak_channel_deadline(0) - before >= A_WHILE);
-    leave_ends(ends, N);
+    leave_ends(ends, 1);
 }
 
-static void closed_ends_drain(void) {
-    fak_channel_end ends[N] = {0};
-    fak_channel_item item = {{0}};
-    bool is_closed = true;
-    CHECK(fak_channel_open_ends(ends, N, 2, STINT) == FAK_C_OK && fak_channel_send(&ends[0], &seven) == FAK_C_OK);
-    CHECK(fak_channel_is_closed(&ends[0].seat, &is_closed) == FAK_C_OK && !is_closed);
-    CHECK(fak_channel_close(&ends[1]) == FAK_C_OK && fak_channel_close(&ends[2]) == FAK_C_CLOSED);
-    CHECK(fak_channel_is_closed(&ends[0].seat, &is_closed) == FAK_C_OK && is_closed);
-    CHECK(fak_channel_send(&ends[0], &seven) == FAK_C_CLOSED && fak_channel_try_send(&ends[0], &seven) == FAK_C_CLOSED);
-    CHECK(fak_channel_send_until(&ends[0], &seven, FAK_CHANNEL_NEVER) == FAK_C_CLOSED);
-    CHECK(fak_channel_receive(&ends[3], &item) == FAK_C_OK && are_equal(&item, &seven));
-    CHECK(fak_channel_receive(&ends[3], &item) == FAK_C_CLOSED && fak_channel_try_receive(&ends[3], &item) == FAK_C_CLOSED);
-    CHECK(fak_channel_receive_until(&ends[0], &item, FAK_CHANNEL_NEVER) == FAK_C_CLOSED);
-    leave_ends(ends, N);
-}
-
-/* An end with no seat, one whose seat has an open call, and one whose stint is used up. */
-static void ends_are_refused(void) {
-    fak_channel_end ends[2] = {0}, other = {0};
-    fak_channel_item item = {{0}};
-    uint64_t number = 0;
-    int sent = 0;
-    CHECK(fak_channel_send(&other, &seven) == FAK_C_NO_SEAT && fak_channel_receive(&other, &item) == FAK_C_NO_SEAT);
-    CHECK(fak_channel_try_send(&other, &seven) == FAK_C_NO_SEAT && fak_channel_try_receive(&other, &item) == FAK_C_NO_SEAT);
-    CHECK(fak_channel_send_until(&other, &seven, 0) == FAK_C_NO_SEAT && fak_channel_receive_until(&other, &item, 0) == FAK_C_NO_SEAT);
-    CHECK(fak_channel_close(&other) == FAK_C_NO_SEAT && fak_channel_move(&other, &ends[0]) == FAK_C_NO_SEAT);
-    CHECK(fak_channel_open_ends(ends, 2, 9, 5) == FAK_C_OK && fak_channel_begin_send(&ends[0].seat, &seven) == FAK_C_OK);
-    CHECK(fak_channel_send(&ends[0], &seven) == FAK_C_WRONG_STATE && fak_channel_receive(&ends[0], &item) == FAK_C_WRONG_STATE);
-    CHECK(fak_channel_close(&ends[0]) == FAK_C_WRONG_STATE && fak_channel_leave(&ends[0]) == FAK_C_WRONG_STATE);
-    CHECK(fak_channel_move(&ends[0], &ends[1]) == FAK_C_WRONG_STATE && fak_channel_move(&ends[0], &other) == FAK_C_OK);
-    CHECK(other.number == 0 && ends[0].seat.at == NULL);
-    while (fak_channel_step(&other.seat, &item, &number) != FAK_C_OK)
-        CHECK(number == 0);
-    while (fak_channel_try_send(&other, &seven) == FAK_C_OK)
-        sent++;
-    CHECK(sent < 5 && fak_channel_send(&other, &seven) == FAK_C_WORN && fak_channel_send_until(&other, &seven, 0) == FAK_C_WORN);
-    leave_ends(&other, 1);
-    leave_ends(&ends[1], 1);
-}
-
-/* Adds up what is left. */
-static void add(void *sum, const fak_channel_item *item) {
-    *(uint64_t *)sum = 10 * *(uint64_t *)sum + item->word[0];
-}
-
-static void the_last_end_drops_what_is_left(void) {
+/* An end whose stint is used up. */
+static void worn_ends_are_refused(void) {
     fak_channel_end ends[2] = {0};
-    uint64_t sum = 0;
-    CHECK(fak_channel_open_ends(ends, 2, 9, STINT) == FAK_C_OK);
-    for (uint64_t word = 1; word <= 3; word++) {
-        fak_channel_item item = fak_channel_of_word(word);
-        CHECK(fak_channel_send(&ends[0], &item) == FAK_C_OK);
-    }
-    CHECK(fak_channel_leave_with(&ends[1], add, &sum) == FAK_C_OK && sum == 0);
-    CHECK(fak_channel_leave_with(&ends[0], add, &sum) == FAK_C_OK && sum == 123);
+    int sent = 0;
+    CHECK(fak_channel_open_ends(ends, 2, 9, 5) == FAK_C_OK);
+    while (fak_channel_try_send(&ends[0], &seven) == FAK_C_OK)
+        sent++;
+    CHECK(sent >= 1 && sent <= 5 && fak_channel_send(&ends[0], &seven) == FAK_C_WORN);
+    CHECK(fak_channel_send_until(&ends[0], &seven, 0) == FAK_C_WORN);
+    leave_ends(ends, 2);
 }
 
 static void pointers_pass(void) {
@@ -194,12 +130,9 @@ static void a_close_wakes_each_side(void) {
     }
 }
 
-void each_end_code_is_returned(void) {
-    openings_are_refused();
-    ends_pass_items();
-    closed_ends_drain();
-    ends_are_refused();
-    the_last_end_drops_what_is_left();
+void ends_wait(void) {
+    deadlines_pass();
+    worn_ends_are_refused();
     pointers_pass();
     own_functions_are_called();
     a_close_wakes_each_side();
@@ -208,60 +141,6 @@ void each_end_code_is_returned(void) {
 /* ---- A shared channel ---- */
 
 enum { SENDERS = 2, RECEIVERS = 1, SHARED = FAK_CHANNEL_SHARED_ENDS(SENDERS, RECEIVERS) };
-
-static void shared_openings_are_refused(void) {
-    static fak_channel_end ends[FAK_C_MOST_SEATS];
-    fak_channel_shared shared = {0};
-    CHECK(fak_channel_shared_open(&shared, ends, 0, 1, 1, 1) == FAK_C_BAD_LIMIT);
-    CHECK(fak_channel_shared_open(&shared, ends, 1, 0, 1, 1) == FAK_C_BAD_LIMIT);
-    CHECK(fak_channel_shared_open(&shared, ends, 1000, 23, 1, 1) == FAK_C_BAD_LIMIT);
-    CHECK(fak_channel_shared_open(&shared, ends, SIZE_MAX, 2, 1, 1) == FAK_C_BAD_LIMIT);
-    CHECK(fak_channel_shared_open(&shared, ends, 1, 1, 0, 1) == FAK_C_BAD_LIMIT);
-    CHECK(fak_channel_shared_over(&shared, ends, 0, 1) == FAK_C_BAD_LIMIT);
-    CHECK(fak_channel_shared_over(&shared, ends, 1, 1) == FAK_C_NO_SEAT);
-    CHECK(fak_channel_shared_open(&shared, ends, 1000, 22, 1, 1) == FAK_C_OK && fak_channel_shared_leave(&shared) == FAK_C_OK);
-    CHECK(ends[0].seat.at == NULL && ends[1023].seat.at == NULL);
-}
-
-static void shared_calls_pass_items(void) {
-    fak_channel_end ends[SHARED] = {0};
-    fak_channel_shared shared = {0};
-    fak_channel_item item = {{0}};
-    uint64_t items = 99, sum = 0;
-    bool is_closed = true;
-    CHECK(fak_channel_shared_open(&shared, ends, SENDERS, RECEIVERS, 2, STINT) == FAK_C_OK);
-    CHECK(fak_channel_shared_try_receive(&shared, &item) == FAK_C_EMPTY);
-    CHECK(fak_channel_shared_receive_until(&shared, &item, fak_channel_deadline(A_WHILE)) == FAK_C_GAVE_UP);
-    CHECK(fak_channel_shared_send(&shared, &seven) == FAK_C_OK && fak_channel_shared_try_send(&shared, &seven) == FAK_C_OK);
-    CHECK(fak_channel_shared_try_send(&shared, &seven) == FAK_C_FULL);
-    CHECK(fak_channel_shared_send_until(&shared, &seven, 0) == FAK_C_GAVE_UP);
-    CHECK(fak_channel_shared_receive(&shared, &item) == FAK_C_OK && are_equal(&item, &seven));
-    CHECK(fak_channel_shared_send_until(&shared, &seven, 0) == FAK_C_OK);
-    CHECK(fak_channel_shared_len(&shared, &items) == FAK_C_OK && items == 2);
-    CHECK(fak_channel_shared_receive_until(&shared, &item, 0) == FAK_C_OK && fak_channel_shared_try_receive(&shared, &item) == FAK_C_OK);
-    CHECK(fak_channel_shared_send(&shared, &seven) == FAK_C_OK && fak_channel_shared_send(&shared, &seven) == FAK_C_OK);
-    CHECK(fak_channel_shared_is_closed(&shared, &is_closed) == FAK_C_OK && !is_closed);
-    CHECK(fak_channel_shared_close(&shared) == FAK_C_OK && fak_channel_shared_close(&shared) == FAK_C_CLOSED);
-    CHECK(fak_channel_shared_is_closed(&shared, &is_closed) == FAK_C_OK && is_closed);
-    CHECK(fak_channel_shared_send(&shared, &seven) == FAK_C_CLOSED && fak_channel_shared_try_send(&shared, &seven) == FAK_C_CLOSED);
-    CHECK(fak_channel_shared_receive(&shared, &item) == FAK_C_OK);
-    CHECK(fak_channel_shared_leave_with(&shared, add, &sum) == FAK_C_OK && sum == 7);
-}
-
-/* A shared channel that was not opened has no seat. */
-static void zeros_are_refused(void) {
-    fak_channel_shared shared = {0};
-    fak_channel_item item = {{0}};
-    uint64_t items = 99;
-    bool is_closed = false;
-    CHECK(fak_channel_shared_send(&shared, &seven) == FAK_C_NO_SEAT && fak_channel_shared_try_send(&shared, &seven) == FAK_C_NO_SEAT);
-    CHECK(fak_channel_shared_receive(&shared, &item) == FAK_C_NO_SEAT && fak_channel_shared_try_receive(&shared, &item) == FAK_C_NO_SEAT);
-    CHECK(fak_channel_shared_send_until(&shared, &seven, 0) == FAK_C_NO_SEAT);
-    CHECK(fak_channel_shared_receive_until(&shared, &item, FAK_CHANNEL_NEVER) == FAK_C_NO_SEAT && item.word[0] == 0);
-    CHECK(fak_channel_shared_len(&shared, &items) == FAK_C_NO_SEAT && items == 99);
-    CHECK(fak_channel_shared_is_closed(&shared, &is_closed) == FAK_C_NO_SEAT && !is_closed);
-    CHECK(fak_channel_shared_close(&shared) == FAK_C_NO_SEAT && fak_channel_shared_leave(&shared) == FAK_C_NO_SEAT);
-}
 
 /* While an end has an open call by steps, no end leaves. All ends leave at once. */
 static void all_ends_leave_or_none(void) {
@@ -354,10 +233,7 @@ static void worn_ends_are_put_aside(void) {
     CHECK(fak_channel_shared_leave(&shared) == FAK_C_OK);
 }
 
-void each_shared_code_is_returned(void) {
-    shared_openings_are_refused();
-    shared_calls_pass_items();
-    zeros_are_refused();
+void shared_ends_are_lent(void) {
     all_ends_leave_or_none();
     ends_are_lent_once();
     lenders_call_own_functions();

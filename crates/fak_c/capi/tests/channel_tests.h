@@ -21,12 +21,12 @@ static inline uint64_t processor_time(void) {
     return (uint64_t)time.tv_sec * 1000000000 + (uint64_t)time.tv_nsec;
 }
 
-/* Each code of each step, on one thread. */
-void each_step_code_is_returned(void);
+/* Calls by steps that sleep, and stints that run out, on one thread. */
+void sleepers_wake_by_steps(void);
 
-/* Each code of each call of an end, and of a shared channel, on one thread. */
-void each_end_code_is_returned(void);
-void each_shared_code_is_returned(void);
+/* Deadlines, pointers and functions of the caller's own, of ends and of a shared channel, on one thread. */
+void ends_wait(void);
+void shared_ends_are_lent(void);
 
 /* Seats that leave in each order, as ends and by steps: who still receives, and what the last one drops. */
 void each_leave_is_counted(void);

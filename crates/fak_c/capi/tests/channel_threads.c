@@ -94,7 +94,7 @@ static uint64_t length(caller by) {
 /* ---- Storms ---- */
 
 /* Counts a refusal, of which there are these kinds. */
-static void is_refused(int32_t code, int32_t of_try) {
+static void count_refusal(int32_t code, int32_t of_try) {
     CHECK(code == of_try || code == FAK_C_GAVE_UP || code == FAK_C_BUSY);
     atomic_fetch_add(code == FAK_C_GAVE_UP ? &timeouts : &refusals, 1);
     if (code == FAK_C_BUSY)
@@ -110,7 +110,7 @@ static bool send_one(worker *self, const fak_channel_item *item) {
                                 : send_item(self->channel, item);
         if (code == FAK_C_OK || code == FAK_C_CLOSED)
             return code == FAK_C_OK;
-        is_refused(code, FAK_C_FULL);
+        count_refusal(code, FAK_C_FULL);
     }
 }
 
@@ -123,7 +123,7 @@ static bool receive_one(worker *self, fak_channel_item *item) {
                                 : receive_item(self->channel, item);
         if (code == FAK_C_OK || code == FAK_C_CLOSED)
             return code == FAK_C_OK;
-        is_refused(code, FAK_C_EMPTY);
+        count_refusal(code, FAK_C_EMPTY);
     }
 }
 

@@ -260,7 +260,7 @@ static bool parks_and_loses(void *context, uint64_t number, uint64_t deadline) {
     return self->is_in_time;
 }
 
-static void is_unparked(void *context, uint64_t number) {
+static void check_unparked(void *context, uint64_t number) {
     (void)context;
     CHECK(number < 3);
 }
@@ -269,7 +269,7 @@ static void is_unparked(void *context, uint64_t number) {
 static void a_lost_race_keeps_the_deadline(bool sends, bool is_in_time) {
     fak_channel_end ends[3] = {0};
     thief self = {.ends = ends, .sends = sends, .is_in_time = is_in_time, .deadline = 77};
-    fak_channel_waiting waiting = {parks_and_loses, is_unparked, NULL, &self, 0, 3, 0};
+    fak_channel_waiting waiting = {parks_and_loses, check_unparked, NULL, &self, 0, 3, 0};
     fak_c_seat seats[3] = {0};
     fak_channel_item item = fak_channel_of_word(1);
     int32_t code;

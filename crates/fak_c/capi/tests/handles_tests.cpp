@@ -1,5 +1,5 @@
-/* Tests of fak_c.hpp: each call of each kind of handle, handles that move and end, and typed items that threads share. The heap
- * counts, so that an object which is not given up is found. The linker's --wrap sends two calls that open here. */
+/* Tests of fak_c.hpp: handles that move and end, and typed items that threads share; rows_of_handles.cpp makes each call. The heap counts,
+ * so that an object which is not given up is found. The linker's --wrap sends two calls that open here. */
 #include "check.h"
 #include "fak_c.hpp"
 #include "heap.h"
@@ -157,18 +157,6 @@ static void a_vector_of_seats_is_opened() {
     CHECK(fak::CreditSeat::open(seats, 3, 1) == Code::BadLimit && !seats[0]);
 }
 
-/* A seat moves during a call, and goes on; its handle cannot leave. */
-static void a_seat_moves_in_mid_call() {
-    Queue seats[2];
-    CHECK(Queue::open(seats, 4, 9) == Code::Ok);
-    CHECK(seats[0].claim_put(8).value == 0 && seats[0].leave() == Code::WrongState);
-    Queue moved = std::move(seats[0]);
-    auto standing = moved.state();
-    CHECK(standing && standing.value.state == Queue::State::Inserting && standing.value.ticket == 0);
-    CHECK(standing.value.left == 8 && seats[1].get().code == Code::Empty);
-    CHECK(moved.try_put() == Code::Ok && seats[1].get().value.item == 8);
-}
-
 /* A seat that is given up during a call is abandoned: its object stays forever. */
 static void *volatile abandoned; /* since it is known here, the address sanitizer finds no leak */
 
@@ -186,105 +174,25 @@ static void a_seat_in_mid_call_is_abandoned() {
     CHECK(other.leave() == Code::Ok && live > before);
 }
 
-/* ---- The calls of each kind ---- */
+/* ---- Bursts and codes ---- */
 
-static void queues_answer() {
-    Queue seats[3];
-    CHECK(Queue::open(seats, 2, 9) == Code::Ok);
-    CHECK(seats[0].claim_put(1).value == 0 && seats[1].put(2).value == 1 && seats[2].put(3).code == Code::Full);
-    auto got = seats[2].get();
-    CHECK(got.code == Code::NotYet && got.value.ticket == 0 && seats[2].try_get().code == Code::NotYet);
-    CHECK(seats[2].state().value.state == Queue::State::Deleting);
-    CHECK(seats[0].try_put() == Code::Ok && seats[0].try_put() == Code::WrongState);
-    auto taken = seats[2].try_get();
-    CHECK(taken && taken.value == 1 && seats[1].pause() == Code::Ok);
-    CHECK(seats[0].count().value == 1 && seats[0].in_use().value.cells == 1 && !seats[0].in_use().value.is_shut);
-    auto shut = seats[1].shut();
-    CHECK(shut && shut.value && !seats[1].shut().value && seats[1].put(4).code == Code::Closed);
-    CHECK(seats[0].drained() && !seats[0].drained().value);
-    CHECK(seats[1].claim_get().value == 1 && seats[1].try_get().value == 2 && seats[1].claim_get().code == Code::Empty);
-    CHECK(seats[0].drained() && seats[0].drained().value && seats[0].in_use().value.is_shut && Queue().count().code == Code::NoSeat);
-}
-
-/* Bursts of each call's form, in part and by steps, and single calls among them. */
-static void bundles_answer() {
-    using Bundle = fak::Bundle<int, 4>;
-    Queue seats[2];
-    Bundle bundles[2];
-    int out[6] = {}, in[6] = {1, 2, 3, 4, 5, 6};
-    CHECK(Bundle::open(seats, bundles, 5, 0, 9) == Code::BadLimit && Bundle::open(seats, bundles, 5, 6, 9) == Code::Ok);
-    Bundle others[1];
-    CHECK(Bundle::open(seats, others, 5, 6, 9) == Code::WrongState && !others[0]);
-    CHECK(bundles[0].state().value.width == 5 && bundles[0].state().value.left == 45 && bundles[0].leave() == Code::Ok);
-    auto put = bundles[1].put_burst(in, 6);
-    CHECK(put && put.value.ticket == 0 && put.value.count == 4);
-    CHECK(seats[0].claim_put(5).value == 4 && seats[1].put(6).value == 5 && bundles[1].put_burst(in, 1).code == Code::Full);
-    auto got = bundles[1].get_burst(out, 3);
-    CHECK(got && got.value.ticket == 0 && got.value.count == 3 && got.value.taken == 3 && out[0] == 1 && out[2] == 3 && out[3] == 0);
-    got = bundles[1].get_burst(out, 6);
-    CHECK(got.code == Code::NotYet && got.value.ticket == 3 && got.value.count == 2 && got.value.taken == 1 && out[0] == 4 && out[1] == 2);
-    auto standing = bundles[1].state().value;
-    CHECK(standing.state == Bundle::State::Deleting && standing.ticket == 4 && standing.open == 1 && standing.left == 36);
-    Bundle moved = std::move(bundles[1]);
-    CHECK(!bundles[1] && moved.leave() == Code::WrongState && moved.try_put_burst().code == Code::WrongState);
-    CHECK(seats[0].try_put() == Code::Ok);
-    auto rest = moved.try_get_burst(out, 6);
-    CHECK(rest && rest.value.taken == 1 && rest.value.left == 0 && out[0] == 5 && moved.get_burst(out, 6).value.taken == 1);
-    CHECK(moved.get_burst(out, 6).code == Code::Empty && moved.get_burst(out, 0).code == Code::BadLimit);
-    CHECK(seats[0].shut() && moved.put_burst(in, 2).code == Code::Closed && bundles[0].put_burst(in, 1).code == Code::NoSeat);
-}
-
-/* An insertion that waits for a cell, and items of another type; bundles only. */
-static void a_burst_waits_for_a_cell() {
-    using Bundle = fak::Bundle<Point>;
-    std::vector<Bundle> bundles(3);
-    Point in[3] = {{1, -1}, {2, -2}, {3, -3}}, out[4] = {};
-    CHECK(Bundle::open(bundles, 3, 3, 9) == Code::Ok && bundles[0].put_burst(in, 3) && bundles[1].put_burst(in, 1).code == Code::Full);
+/* A burst has no more items than its class says. Items have types, and bundles are opened only over empty handles. */
+static void bursts_have_types() {
+    using Short = fak::Bundle<Point, 2>;
     fak::QueueSeat<Point> seats[1];
-    CHECK(Bundle::open(seats, bundles, 3, 3, 9) == Code::WrongState);
-    bundles.clear();
-    bundles.resize(2);
-    CHECK(Bundle::open(seats, bundles, 3, 3, 9) == Code::Ok && bundles[0].put_burst(in, 3) && seats[0].claim_get());
-    CHECK(bundles[1].get_burst(out, 2).value.taken == 2 && out[1].x == 3 && out[1].y == -3);
-    auto put = bundles[0].put_burst(in, 3);
-    CHECK(put.code == Code::NotYet && put.value.ticket == 3 && put.value.count == 2 && bundles[0].try_put_burst().value == 2);
-    CHECK(seats[0].try_get().value.x == 1 && bundles[0].try_put_burst() && bundles[1].get_burst(out, 4).value.count == 2);
-    CHECK(out[0].x == 1 && out[1].x == 2 && bundles[0].state().value.state == Bundle::State::Idle);
+    Short bundles[1], others[1];
+    Point in[3] = {{1, -1}, {2, -2}, {3, -3}}, out[3] = {};
+    CHECK(Short::open(seats, bundles, 5, 6, 9) == Code::Ok && Short::open(seats, others, 5, 6, 9) == Code::WrongState && !others[0]);
+    CHECK(Short::open(bundles, 5, 6, 9) == Code::WrongState && bundles[0].put_burst(in, 3).value.count == 2);
+    CHECK(bundles[0].put_burst(in + 2, 1) && bundles[0].get_burst(out, 3).value.count == 2 && out[1].x == 2 && out[1].y == -2);
+    CHECK(bundles[0].get_burst(out, 3).value.count == 1 && out[0].x == 3 && out[2].x == 0);
 }
 
-static void semaphores_answer() {
+/* What a semaphore wakes has a type too. */
+static void woken_items_have_types() {
     fak::SemSeat<Color> seats[2];
-    CHECK(fak::SemSeat<Color>::open(seats, 1, 4, 9) == Code::Ok && seats[0].claim_down(Color::Red) == Code::Ok);
-    CHECK(seats[0].claim_down(Color::Green) == Code::Parks && seats[1].claim_up() == Code::Wakes);
-    CHECK(seats[0].state().value.state == fak::SemSeat<Color>::State::Parking && seats[1].try_wake().code == Code::NotYet);
-    CHECK(seats[0].try_park() == Code::Ok);
-    auto woken = seats[1].try_wake();
-    while (woken.code == Code::NotYet)
-        woken = seats[1].try_wake();
-    CHECK(woken && woken.value == Color::Green && seats[1].claim_up() == Code::Ok && seats[1].state().value.left == 7);
-}
-
-static void counts_answer() {
-    fak::RoomSeat rooms[2];
-    CHECK(fak::RoomSeat::open(rooms, 5, 9) == Code::Ok && rooms[0].claim(3).value == 0);
-    auto refused = rooms[1].claim(3);
-    CHECK(refused.code == Code::Full && refused.value == 3 && rooms[0].claim(0).code == Code::BadLimit);
-    CHECK(rooms[0].state().value.held == 3 && rooms[0].state().value.left == 8 && rooms[0].leave() == Code::WrongState);
-    CHECK(rooms[0].release(4).code == Code::BadLimit && rooms[0].release(3).value == 3 && rooms[0].leave() == Code::Ok);
-    fak::CreditSeat credits[1];
-    CHECK(fak::CreditSeat::open(credits, 1, 3) == Code::Ok && credits[0].debit().value == 1 && credits[0].debit().value == 0);
-    CHECK(credits[0].credit().value == -1 && credits[0].credit().code == Code::Worn && credits[0].state().value.value == 0);
-}
-
-static void files_answer() {
-    fak::FileSeat seats[2];
-    CHECK(fak::FileSeat::open(seats, 2, 9) == Code::Ok && seats[0].try_write());
-    auto busy = seats[1].try_read();
-    CHECK(busy.code == Code::Busy && busy.value == 0 && seats[0].hold().value == fak::FileSeat::Hold::Writing);
-    CHECK(seats[0].set_inode(1, 7) == Code::Ok && seats[0].set_uses(1, 8) == Code::Ok && seats[0].set_uses(2, 8) == Code::WrongState);
-    CHECK(seats[0].end() == Code::Ok && seats[1].try_read() && seats[0].try_write().value == 1);
-    auto entry = seats[1].get(1);
-    CHECK(entry && entry.value.inode == 7 && entry.value.uses == 8 && seats[1].end() == Code::Ok);
+    CHECK(fak::SemSeat<Color>::open(seats, 0, 4, 9) == Code::Ok && seats[0].claim_down(Color::Green) == Code::Parks);
+    CHECK(seats[0].try_park() == Code::Ok && seats[1].claim_up() == Code::Wakes && seats[1].try_wake().value == Color::Green);
 }
 
 static void codes_have_texts() {
@@ -389,13 +297,8 @@ int main(int count, char **words) {
     no_handles_are_opened();
     handles_own_their_seats();
     a_vector_of_seats_is_opened();
-    a_seat_moves_in_mid_call();
-    queues_answer();
-    bundles_answer();
-    a_burst_waits_for_a_cell();
-    semaphores_answer();
-    counts_answer();
-    files_answer();
+    bursts_have_types();
+    woken_items_have_types();
     codes_have_texts();
     threads_share_a_queue(count > 1 ? std::atoi(words[1]) : 20000);
     threads_pass_bursts(count > 1 ? std::atoi(words[1]) : 20000);

@@ -182,7 +182,7 @@ static void *share(void *number) {
 }
 
 /* What the objects say once the threads have ended: each item was taken out once, and each count is that of all threads. */
-static void all_was_counted(void) {
+static void check_counts(void) {
     int64_t value = 0;
     uint64_t left = 0, inode = 0, uses = 0, item = 0;
     for (size_t i = 0; i < THREADS * ROUNDS; i++)
@@ -212,7 +212,7 @@ static void threads_share_each_kind(void) {
     }
     for (size_t i = 0; i < THREADS; i++)
         CHECK(pthread_join(threads[i], NULL) == 0);
-    all_was_counted();
+    check_counts();
     for (int kind = 0; kind < KINDS; kind++)
         leave_block(blocks[kind], kind, SEATS);
 }

@@ -58,7 +58,7 @@ static void *share(void *argument) {
 }
 
 /* The semaphore is as it began: the downs up to its start pass, and one more parks, as the only one that waits. */
-static void all_was_raised(fak_c_seat *seat) {
+static void check_tokens(fak_c_seat *seat) {
     uint64_t woken = 0;
     for (int i = 0; i < START; i++)
         CHECK(fak_c_sem_claim_down(seat, THREADS) == FAK_C_OK);
@@ -67,10 +67,10 @@ static void all_was_raised(fak_c_seat *seat) {
 }
 
 /* What the objects say once the threads have ended. */
-static void all_was_counted(uint64_t total) {
+static void check_counts(uint64_t total) {
     int64_t value = 0, count = 0, found = 99;
     uint64_t left = 0, inode = 0, uses = 0, held = 99;
-    all_was_raised(&semaphore[0]);
+    check_tokens(&semaphore[0]);
     CHECK(fak_c_room_tir(&room[0], BOUND, &found) == FAK_C_OK && found == 0);
     CHECK(fak_c_room_release(&room[0], BOUND, &found) == FAK_C_OK && found == BOUND);
     CHECK(fak_c_credit_value(&credit[0], &value, &left) == FAK_C_OK && value == (int64_t)total);
@@ -97,7 +97,7 @@ void threads_share_objects(uint64_t rounds) {
     }
     for (size_t i = 0; i < THREADS; i++)
         CHECK(pthread_join(sharers[i].thread, NULL) == 0);
-    all_was_counted(THREADS * rounds);
+    check_counts(THREADS * rounds);
 }
 
 /* ---- Memory that is handed over ---- */

@@ -1,4 +1,4 @@
-/* Runs one group of the tests: `codes`, `kinds`, `limits`, `pauses llvm` or `pauses rattle` by which the archive was built, `memory`,
+/* Runs one group of the tests: `limits`, `pauses llvm` or `pauses rattle` by which the archive was built, `memory`,
  * `threads PAIRS ITEMS`, `drain ITEMS`, `objects ROUNDS` or `pointers ITEMS`; of bundles `bursts`, `burst-threads PAIRS ITEMS`,
  * `burst-drain ITEMS`, `burst-stops` or `burst-pointers ITEMS`. */
 #include "tests.h"
@@ -6,11 +6,7 @@
 #include <string.h>
 
 int main(int count, char **words) {
-    if (count == 2 && strcmp(words[1], "codes") == 0)
-        each_code_is_returned();
-    else if (count == 2 && strcmp(words[1], "kinds") == 0)
-        each_kind_returns_its_codes();
-    else if (count == 2 && strcmp(words[1], "limits") == 0)
+    if (count == 2 && strcmp(words[1], "limits") == 0)
         each_limit_is_named();
     else if (count == 3 && strcmp(words[1], "pauses") == 0 && strcmp(words[2], "llvm") == 0)
         pauses_have_their_length(true);
@@ -27,7 +23,7 @@ int main(int count, char **words) {
     else if (count == 3 && strcmp(words[1], "pointers") == 0)
         memory_is_handed_over(strtoull(words[2], NULL, 10));
     else if (count == 2 && strcmp(words[1], "bursts") == 0)
-        each_burst_code_is_returned();
+        bursts_are_those_of_a_list();
     else if (count == 4 && strcmp(words[1], "burst-threads") == 0)
         threads_share_a_queue_by_bursts(atoi(words[2]), strtoull(words[3], NULL, 10));
     else if (count == 3 && strcmp(words[1], "burst-drain") == 0)

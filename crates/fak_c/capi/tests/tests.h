@@ -13,13 +13,8 @@
 #define LARGE_SIZE (UINT64_C(1) << 24)
 #define LARGE_CALLS (UINT64_C(1) << 50)
 
-/* Each code of each call of a queue, on one thread, and seats that move. */
-void each_code_is_returned(void);
-
-/* The same of semaphores, rooms, credits and file tables; and what the calls of each kind return for seats of the others. */
-void each_kind_returns_its_codes(void);
-
-/* On either side of each limit the code is FAK_C_BAD_LIMIT exactly if FAK_C_IS_.. says that a number is out of range. */
+/* On either side of each limit the code is FAK_C_BAD_LIMIT exactly if FAK_C_IS_.. says that a number is out of range. Each size, each
+ * number of seats and each width of a stint is opened. */
 void each_limit_is_named(void);
 
 /* Seats that take turns pause as long as they should, at each size of a queue. They do not pause if the queue has few cells, or if
@@ -41,8 +36,8 @@ void memory_is_handed_over(uint64_t items);
 /* A queue is shut while threads insert into it, and drained. */
 void a_shut_queue_is_drained(uint64_t items);
 
-/* Each code of each call of a bundle, on one thread, and random bursts compared with a plain list. */
-void each_burst_code_is_returned(void);
+/* Limits of bundles, and random bursts compared with a plain list, on one thread. */
+void bursts_are_those_of_a_list(void);
 
 /* This many producers and as many consumers share a queue, half of them by bursts. */
 void threads_share_a_queue_by_bursts(int pairs, uint64_t items);

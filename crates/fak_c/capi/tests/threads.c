@@ -81,7 +81,7 @@ void threads_share_a_queue(int pairs, uint64_t items) {
         start_with(&consumers[i], consume, &seats[pairs + i], 0, items, taken);
     }
     CHECK(join_all(producers, pairs) == total && join_all(consumers, pairs) == total);
-    are_in_order(producers, pairs, taken, 0, total);
+    check_order(producers, pairs, taken, 0, total);
     for (int i = 0; i < 2 * pairs; i++)
         CHECK(fak_c_leave(&seats[i]) == FAK_C_OK);
     free(taken);
@@ -115,7 +115,7 @@ void a_shut_queue_is_drained(uint64_t items) {
     CHECK(join_all(consumers, PAIRS) + self.count == put);
     CHECK(fak_c_claim_delete(self.seat, &ticket) == FAK_C_EMPTY);
     CHECK(fak_c_claim_insert(self.seat, 1, &ticket) == FAK_C_CLOSED);
-    are_in_order(producers, PAIRS, taken, 0, put);
+    check_order(producers, PAIRS, taken, 0, put);
     for (int i = 0; i <= 2 * PAIRS; i++)
         CHECK(fak_c_leave(&seats[i]) == FAK_C_OK);
     free(taken);

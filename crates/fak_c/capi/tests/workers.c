@@ -19,7 +19,7 @@ uint64_t join_all(worker *workers, int count) {
     return sum;
 }
 
-void are_in_order(const worker *producers, int count, const uint64_t *taken, uint64_t first, uint64_t total) {
+void check_order(const worker *producers, int count, const uint64_t *taken, uint64_t first, uint64_t total) {
     uint64_t next[MOST_PAIRS] = {0};
     for (uint64_t ticket = first; ticket < first + total; ticket++) {
         uint64_t number = taken[ticket] >> 32;

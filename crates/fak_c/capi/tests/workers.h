@@ -29,6 +29,6 @@ void start(worker *self, void *(*work)(void *));
 uint64_t join_all(worker *workers, int count);
 
 /* Under the `total` tickets from `first` on, each item of each producer was taken once, in its producer's order. */
-void are_in_order(const worker *producers, int count, const uint64_t *taken, uint64_t first, uint64_t total);
+void check_order(const worker *producers, int count, const uint64_t *taken, uint64_t first, uint64_t total);
 
 #endif

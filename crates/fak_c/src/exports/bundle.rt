@@ -9,7 +9,7 @@ ghost use Rattle.fak_handles.specs.Kinds.{Spares, bundle_in};
 use fak_handles::bundle::codes::{of_delete_burst, of_fill_burst, of_insert_burst, of_take_burst};
 use fak_handles::bundle::opening::are_numbers_of_seats;
 use fak_handles::code::{BAD_LIMIT, NO_SEAT, OK};
-use fak_handles::place::Place;
+use fak_handles::padded_handle::PaddedHandle;
 use std::alloc::Global;
 
 /// Opens a queue of `size` cells, gives each handle of the first array a seat of it with this stint, and each of the second a bundle of
@@ -21,8 +21,8 @@ use std::alloc::Global;
 #[unsafe(no_mangle)]
 pub extern "C" fn fak_c_open_bundles(
     alloc: Global,
-    seats: &mut [Place],
-    bundles: &mut [Place],
+    seats: &mut [PaddedHandle],
+    bundles: &mut [PaddedHandle],
     width: u64,
     size: u64,
     stint: u64,
@@ -45,7 +45,7 @@ pub extern "C" fn fak_c_open_bundles(
 /// or `WRONG_STATE`.
 #[unsafe(no_mangle)]
 pub extern "C" fn fak_c_insert_burst(
-    bundle: &mut Place,
+    bundle: &mut PaddedHandle,
     items: &[u64],
     ticket: &mut u64,
     count: &mut u64,
@@ -69,7 +69,7 @@ pub extern "C" fn fak_c_insert_burst(
 ///
 /// `OK`, `NOT_YET`, `NO_SEAT` or `WRONG_STATE`.
 #[unsafe(no_mangle)]
-pub extern "C" fn fak_c_try_fill_burst(bundle: &mut Place, left: &mut u64) -> i32
+pub extern "C" fn fak_c_try_fill_burst(bundle: &mut PaddedHandle, left: &mut u64) -> i32
     ensures call { Called result (left.new ≡ left.old) SameQueueOf (FillsOpenBurst result left.old left.new)
         (bundle_in bundle.old.handle.desk) (bundle_in bundle.new.handle.desk) }
     ensures spares { Spares bundle_in bundle.old.handle.desk bundle.new.handle.desk }
@@ -88,7 +88,7 @@ pub extern "C" fn fak_c_try_fill_burst(bundle: &mut Place, left: &mut u64) -> i3
 /// `WRONG_STATE`.
 #[unsafe(no_mangle)]
 pub extern "C" fn fak_c_delete_burst(
-    bundle: &mut Place,
+    bundle: &mut PaddedHandle,
     items: &mut [u64],
     ticket: &mut u64,
     count: &mut u64,
@@ -117,7 +117,7 @@ pub extern "C" fn fak_c_delete_burst(
 /// `OK` if none is left, `NOT_YET`, `NO_SEAT` or `WRONG_STATE`.
 #[unsafe(no_mangle)]
 pub extern "C" fn fak_c_try_take_burst(
-    bundle: &mut Place,
+    bundle: &mut PaddedHandle,
     items: &mut [u64],
     taken: &mut u64,
     left: &mut u64,
@@ -141,7 +141,7 @@ pub extern "C" fn fak_c_try_take_burst(
 /// `OK` or `NO_SEAT`.
 #[unsafe(no_mangle)]
 pub extern "C" fn fak_c_bundle_state(
-    bundle: &mut Place,
+    bundle: &mut PaddedHandle,
     state: &mut u32,
     ticket: &mut u64,
     waiting: &mut u64,

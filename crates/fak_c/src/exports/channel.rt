@@ -10,13 +10,13 @@ use fak_handles::channel::codes::{
 };
 use fak_handles::channel::seat::Item;
 use fak_handles::code::{NO_SEAT, OK};
-use fak_handles::place::Place;
+use fak_handles::padded_handle::PaddedHandle;
 
 /// Begins to send the item.
 ///
 /// `OK` if `fak_channel_step` is next; `WORN`, `NO_SEAT` or `WRONG_STATE`.
 #[unsafe(no_mangle)]
-pub extern "C" fn fak_channel_begin_send(end: &mut Place, item: &Item) -> i32
+pub extern "C" fn fak_channel_begin_send(end: &mut PaddedHandle, item: &Item) -> i32
     ensures call { Called result Unit SameChannel (BeginsSend result item.now)
         (channel_in end.old.handle.desk) (channel_in end.new.handle.desk) }
     ensures spares { Spares channel_in end.old.handle.desk end.new.handle.desk }
@@ -32,7 +32,7 @@ pub extern "C" fn fak_channel_begin_send(end: &mut Place, item: &Item) -> i32
 ///
 /// `OK` if `fak_channel_step` is next; `WORN`, `NO_SEAT` or `WRONG_STATE`.
 #[unsafe(no_mangle)]
-pub extern "C" fn fak_channel_begin_receive(end: &mut Place) -> i32
+pub extern "C" fn fak_channel_begin_receive(end: &mut PaddedHandle) -> i32
     ensures call { Called result Unit SameChannel (BeginsReceive result)
         (channel_in end.old.handle.desk) (channel_in end.new.handle.desk) }
     ensures spares { Spares channel_in end.old.handle.desk end.new.handle.desk }
@@ -48,7 +48,7 @@ pub extern "C" fn fak_channel_begin_receive(end: &mut Place) -> i32
 ///
 /// `OK` if `fak_channel_step` is next; `WORN`, `CLOSED`, `FULL`, `NO_SEAT` or `WRONG_STATE`.
 #[unsafe(no_mangle)]
-pub extern "C" fn fak_channel_begin_try_send(end: &mut Place, item: &Item) -> i32
+pub extern "C" fn fak_channel_begin_try_send(end: &mut PaddedHandle, item: &Item) -> i32
     ensures call { Called result Unit SameChannel (BeginsTrySend result item.now)
         (channel_in end.old.handle.desk) (channel_in end.new.handle.desk) }
     ensures spares { Spares channel_in end.old.handle.desk end.new.handle.desk }
@@ -64,7 +64,7 @@ pub extern "C" fn fak_channel_begin_try_send(end: &mut Place, item: &Item) -> i3
 ///
 /// `OK` if `fak_channel_step` is next; `WORN`, `CLOSED`, `EMPTY`, `NO_SEAT` or `WRONG_STATE`.
 #[unsafe(no_mangle)]
-pub extern "C" fn fak_channel_begin_try_receive(end: &mut Place) -> i32
+pub extern "C" fn fak_channel_begin_try_receive(end: &mut PaddedHandle) -> i32
     ensures call { Called result Unit SameChannel (BeginsTryReceive result)
         (channel_in end.old.handle.desk) (channel_in end.new.handle.desk) }
     ensures spares { Spares channel_in end.old.handle.desk end.new.handle.desk }
@@ -80,7 +80,7 @@ pub extern "C" fn fak_channel_begin_try_receive(end: &mut Place) -> i32
 ///
 /// `OK` if `fak_channel_step` is next; `WORN`, `NO_SEAT` or `WRONG_STATE`.
 #[unsafe(no_mangle)]
-pub extern "C" fn fak_channel_begin_close(end: &mut Place) -> i32
+pub extern "C" fn fak_channel_begin_close(end: &mut PaddedHandle) -> i32
     ensures call { Called result Unit SameChannel (BeginsClose result)
         (channel_in end.old.handle.desk) (channel_in end.new.handle.desk) }
     ensures spares { Spares channel_in end.old.handle.desk end.new.handle.desk }
@@ -96,7 +96,7 @@ pub extern "C" fn fak_channel_begin_close(end: &mut Place) -> i32
 ///
 /// `OK`, `CLOSED` or `WORN` if the call is done; `NOT_YET`, `WAKES` or `SLEEPS` if it stays open; `NO_SEAT` or `WRONG_STATE`.
 #[unsafe(no_mangle)]
-pub extern "C" fn fak_channel_step(end: &mut Place, item: &mut Item, number: &mut u64) -> i32
+pub extern "C" fn fak_channel_step(end: &mut PaddedHandle, item: &mut Item, number: &mut u64) -> i32
     ensures call { Called result ((item.new ≡ item.old) × (number.new ≡ number.old)) SameChannel
         (StepsOn result item.old item.new number.old number.new)
         (channel_in end.old.handle.desk) (channel_in end.new.handle.desk) }
@@ -113,7 +113,7 @@ pub extern "C" fn fak_channel_step(end: &mut Place, item: &mut Item, number: &mu
 ///
 /// `GAVE_UP` if the call is done; `NOT_YET` if it was woken before and stays open; `NO_SEAT` or `WRONG_STATE`.
 #[unsafe(no_mangle)]
-pub extern "C" fn fak_channel_give_up(end: &mut Place, item: &mut Item) -> i32
+pub extern "C" fn fak_channel_give_up(end: &mut PaddedHandle, item: &mut Item) -> i32
     ensures call { Called result (item.new ≡ item.old) SameChannel (GivesUpCall result item.old item.new)
         (channel_in end.old.handle.desk) (channel_in end.new.handle.desk) }
     ensures spares { Spares channel_in end.old.handle.desk end.new.handle.desk }
@@ -129,7 +129,7 @@ pub extern "C" fn fak_channel_give_up(end: &mut Place, item: &mut Item) -> i32
 ///
 /// `OK` or `NO_SEAT`.
 #[unsafe(no_mangle)]
-pub extern "C" fn fak_channel_len(end: &mut Place, items: &mut u64) -> i32
+pub extern "C" fn fak_channel_len(end: &mut PaddedHandle, items: &mut u64) -> i32
     ensures call { Called result (items.new ≡ items.old) SameChannel (CountsItems result items.new)
         (channel_in end.old.handle.desk) (channel_in end.new.handle.desk) }
     ensures spares { Spares channel_in end.old.handle.desk end.new.handle.desk }
@@ -145,7 +145,7 @@ pub extern "C" fn fak_channel_len(end: &mut Place, items: &mut u64) -> i32
 ///
 /// `OK` or `NO_SEAT`.
 #[unsafe(no_mangle)]
-pub extern "C" fn fak_channel_is_closed(end: &mut Place, is_closed: &mut bool) -> i32
+pub extern "C" fn fak_channel_is_closed(end: &mut PaddedHandle, is_closed: &mut bool) -> i32
     ensures call { Called result (is_closed.new ≡ is_closed.old) SameChannel (TellsClosed result is_closed.new)
         (channel_in end.old.handle.desk) (channel_in end.new.handle.desk) }
     ensures spares { Spares channel_in end.old.handle.desk end.new.handle.desk }
@@ -162,7 +162,7 @@ pub extern "C" fn fak_channel_is_closed(end: &mut Place, is_closed: &mut bool) -
 /// `OK` or `NO_SEAT`.
 #[unsafe(no_mangle)]
 pub extern "C" fn fak_channel_state(
-    end: &mut Place,
+    end: &mut PaddedHandle,
     number: &mut u64,
     state: &mut u32,
     left: &mut u64,

@@ -8,13 +8,13 @@ ghost use Rattle.fak_handles.specs.Kinds.{Spares, credit_in};
 
 use fak_handles::code::{NO_SEAT, OK};
 use fak_handles::credit::codes::of_credit;
-use fak_handles::place::Place;
+use fak_handles::padded_handle::PaddedHandle;
 
 /// Subtracts 1, and writes the value before.
 ///
 /// `OK`, `WORN` or `NO_SEAT`.
 #[unsafe(no_mangle)]
-pub extern "C" fn fak_c_credit_debit(seat: &mut Place, found: &mut i64) -> i32
+pub extern "C" fn fak_c_credit_debit(seat: &mut PaddedHandle, found: &mut i64) -> i32
     ensures call { Called result (found.new ≡ found.old) SameCredit (MovesCredit Debit result found.old found.new)
         (credit_in seat.old.handle.desk) (credit_in seat.new.handle.desk) }
     ensures spares { Spares credit_in seat.old.handle.desk seat.new.handle.desk }
@@ -30,7 +30,7 @@ pub extern "C" fn fak_c_credit_debit(seat: &mut Place, found: &mut i64) -> i32
 ///
 /// `OK`, `WORN` or `NO_SEAT`.
 #[unsafe(no_mangle)]
-pub extern "C" fn fak_c_credit_credit(seat: &mut Place, found: &mut i64) -> i32
+pub extern "C" fn fak_c_credit_credit(seat: &mut PaddedHandle, found: &mut i64) -> i32
     ensures call { Called result (found.new ≡ found.old) SameCredit (MovesCredit Credited result found.old found.new)
         (credit_in seat.old.handle.desk) (credit_in seat.new.handle.desk) }
     ensures spares { Spares credit_in seat.old.handle.desk seat.new.handle.desk }
@@ -46,7 +46,11 @@ pub extern "C" fn fak_c_credit_credit(seat: &mut Place, found: &mut i64) -> i32
 ///
 /// `OK` or `NO_SEAT`.
 #[unsafe(no_mangle)]
-pub extern "C" fn fak_c_credit_value(seat: &mut Place, value: &mut i64, left: &mut u64) -> i32
+pub extern "C" fn fak_c_credit_value(
+    seat: &mut PaddedHandle,
+    value: &mut i64,
+    left: &mut u64,
+) -> i32
     ensures call { Called result ((value.new ≡ value.old) × (left.new ≡ left.old)) SameCredit
         (LoadsCredit result value.new left.new) (credit_in seat.old.handle.desk) (credit_in seat.new.handle.desk) }
     ensures spares { Spares credit_in seat.old.handle.desk seat.new.handle.desk }

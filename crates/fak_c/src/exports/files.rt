@@ -9,14 +9,14 @@ ghost use Rattle.fak_handles.specs.files.Calls.{Ends, Gets, LooksAtHold, SameTab
 
 use fak_handles::code::{NO_SEAT, OK};
 use fak_handles::files::codes::{of_done, of_get, of_held, of_hold};
-use fak_handles::place::Place;
+use fak_handles::padded_handle::PaddedHandle;
 use fak_model::FileField;
 
 /// A reader's hold.
 ///
 /// `OK`, `WORN`, `BUSY` with the count that was found, `NO_SEAT` or `WRONG_STATE`.
 #[unsafe(no_mangle)]
-pub extern "C" fn fak_c_files_try_read(seat: &mut Place, count: &mut i64) -> i32
+pub extern "C" fn fak_c_files_try_read(seat: &mut PaddedHandle, count: &mut i64) -> i32
     ensures call { Called result (count.new ≡ count.old) SameTable (TriesHold Read result count.old count.new)
         (files_in seat.old.handle.desk) (files_in seat.new.handle.desk) }
     ensures spares { Spares files_in seat.old.handle.desk seat.new.handle.desk }
@@ -32,7 +32,7 @@ pub extern "C" fn fak_c_files_try_read(seat: &mut Place, count: &mut i64) -> i32
 ///
 /// `OK`, `WORN`, `BUSY` with the count that was found, `NO_SEAT` or `WRONG_STATE`.
 #[unsafe(no_mangle)]
-pub extern "C" fn fak_c_files_try_write(seat: &mut Place, count: &mut i64) -> i32
+pub extern "C" fn fak_c_files_try_write(seat: &mut PaddedHandle, count: &mut i64) -> i32
     ensures call { Called result (count.new ≡ count.old) SameTable (TriesHold Write result count.old count.new)
         (files_in seat.old.handle.desk) (files_in seat.new.handle.desk) }
     ensures spares { Spares files_in seat.old.handle.desk seat.new.handle.desk }
@@ -49,7 +49,7 @@ pub extern "C" fn fak_c_files_try_write(seat: &mut Place, count: &mut i64) -> i3
 /// `OK`, `WRONG_STATE` with no hold or no such entry, or `NO_SEAT`.
 #[unsafe(no_mangle)]
 pub extern "C" fn fak_c_files_get(
-    seat: &mut Place,
+    seat: &mut PaddedHandle,
     entry: u64,
     inode: &mut u64,
     uses: &mut u64,
@@ -70,7 +70,7 @@ pub extern "C" fn fak_c_files_get(
 ///
 /// `OK`, `WRONG_STATE` with no such hold or entry, or `NO_SEAT`.
 #[unsafe(no_mangle)]
-pub extern "C" fn fak_c_files_set_inode(seat: &mut Place, entry: u64, to: u64) -> i32
+pub extern "C" fn fak_c_files_set_inode(seat: &mut PaddedHandle, entry: u64, to: u64) -> i32
     ensures call { Called result Unit SameTable (Sets result entry Inode to) (files_in seat.old.handle.desk)
         (files_in seat.new.handle.desk) }
     ensures spares { Spares files_in seat.old.handle.desk seat.new.handle.desk }
@@ -85,7 +85,7 @@ pub extern "C" fn fak_c_files_set_inode(seat: &mut Place, entry: u64, to: u64) -
 ///
 /// `OK`, `WRONG_STATE` with no such hold or entry, or `NO_SEAT`.
 #[unsafe(no_mangle)]
-pub extern "C" fn fak_c_files_set_uses(seat: &mut Place, entry: u64, to: u64) -> i32
+pub extern "C" fn fak_c_files_set_uses(seat: &mut PaddedHandle, entry: u64, to: u64) -> i32
     ensures call { Called result Unit SameTable (Sets result entry Uses to) (files_in seat.old.handle.desk)
         (files_in seat.new.handle.desk) }
     ensures spares { Spares files_in seat.old.handle.desk seat.new.handle.desk }
@@ -100,7 +100,7 @@ pub extern "C" fn fak_c_files_set_uses(seat: &mut Place, entry: u64, to: u64) ->
 ///
 /// `OK`, `WRONG_STATE` with no hold, or `NO_SEAT`.
 #[unsafe(no_mangle)]
-pub extern "C" fn fak_c_files_end(seat: &mut Place) -> i32
+pub extern "C" fn fak_c_files_end(seat: &mut PaddedHandle) -> i32
     ensures call { Called result Unit SameTable (Ends result) (files_in seat.old.handle.desk)
         (files_in seat.new.handle.desk) }
     ensures spares { Spares files_in seat.old.handle.desk seat.new.handle.desk }
@@ -115,7 +115,7 @@ pub extern "C" fn fak_c_files_end(seat: &mut Place) -> i32
 ///
 /// `OK` or `NO_SEAT`.
 #[unsafe(no_mangle)]
-pub extern "C" fn fak_c_files_hold(seat: &mut Place, hold: &mut u32) -> i32
+pub extern "C" fn fak_c_files_hold(seat: &mut PaddedHandle, hold: &mut u32) -> i32
     ensures call { Called result (hold.new ≡ hold.old) SameTable (LooksAtHold result hold.new)
         (files_in seat.old.handle.desk) (files_in seat.new.handle.desk) }
     ensures spares { Spares files_in seat.old.handle.desk seat.new.handle.desk }

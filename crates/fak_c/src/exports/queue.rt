@@ -7,7 +7,7 @@ ghost use Rattle.fak_handles.specs.Kinds.{Spares, queue_in};
 ghost use Rattle.fak_handles.specs.queue.Observing.{Counts, CountsCells, TellsDrained};
 
 use fak_handles::code::{NO_SEAT, OK};
-use fak_handles::place::Place;
+use fak_handles::padded_handle::PaddedHandle;
 use fak_handles::queue::codes::{
     of_delete, of_delete_once, of_fill, of_insert, of_insert_once, of_shut, of_state, of_take,
 };
@@ -16,7 +16,7 @@ use fak_handles::queue::codes::{
 ///
 /// `OK`, `WORN`, `CLOSED`, `FULL`, `NO_SEAT` or `WRONG_STATE`.
 #[unsafe(no_mangle)]
-pub extern "C" fn fak_c_claim_insert(seat: &mut Place, item: u64, ticket: &mut u64) -> i32
+pub extern "C" fn fak_c_claim_insert(seat: &mut PaddedHandle, item: u64, ticket: &mut u64) -> i32
     ensures call { Called result (ticket.new ≡ ticket.old) SameQueue (Inserts result item ticket.old ticket.new)
         (queue_in seat.old.handle.desk) (queue_in seat.new.handle.desk) }
     ensures spares { Spares queue_in seat.old.handle.desk seat.new.handle.desk }
@@ -32,7 +32,7 @@ pub extern "C" fn fak_c_claim_insert(seat: &mut Place, item: u64, ticket: &mut u
 ///
 /// `OK`, `NOT_YET`, `NO_SEAT` or `WRONG_STATE`.
 #[unsafe(no_mangle)]
-pub extern "C" fn fak_c_try_fill(seat: &mut Place) -> i32
+pub extern "C" fn fak_c_try_fill(seat: &mut PaddedHandle) -> i32
     ensures call { Called result Unit SameQueue (TriesToFill result) (queue_in seat.old.handle.desk)
         (queue_in seat.new.handle.desk) }
     ensures spares { Spares queue_in seat.old.handle.desk seat.new.handle.desk }
@@ -48,7 +48,7 @@ pub extern "C" fn fak_c_try_fill(seat: &mut Place) -> i32
 ///
 /// `OK`, `WORN`, `EMPTY`, `NO_SEAT` or `WRONG_STATE`.
 #[unsafe(no_mangle)]
-pub extern "C" fn fak_c_claim_delete(seat: &mut Place, ticket: &mut u64) -> i32
+pub extern "C" fn fak_c_claim_delete(seat: &mut PaddedHandle, ticket: &mut u64) -> i32
     ensures call { Called result (ticket.new ≡ ticket.old) SameQueue (Deletes result ticket.old ticket.new)
         (queue_in seat.old.handle.desk) (queue_in seat.new.handle.desk) }
     ensures spares { Spares queue_in seat.old.handle.desk seat.new.handle.desk }
@@ -64,7 +64,7 @@ pub extern "C" fn fak_c_claim_delete(seat: &mut Place, ticket: &mut u64) -> i32
 ///
 /// `OK`, `NOT_YET`, `NO_SEAT` or `WRONG_STATE`.
 #[unsafe(no_mangle)]
-pub extern "C" fn fak_c_try_take(seat: &mut Place, item: &mut u64) -> i32
+pub extern "C" fn fak_c_try_take(seat: &mut PaddedHandle, item: &mut u64) -> i32
     ensures call { Called result (item.new ≡ item.old) SameQueue (TriesToTake result item.old item.new)
         (queue_in seat.old.handle.desk) (queue_in seat.new.handle.desk) }
     ensures spares { Spares queue_in seat.old.handle.desk seat.new.handle.desk }
@@ -80,7 +80,7 @@ pub extern "C" fn fak_c_try_take(seat: &mut Place, item: &mut u64) -> i32
 ///
 /// `OK`, `NOT_YET` if the claim is kept for `fak_c_try_fill`, `WORN`, `CLOSED`, `FULL`, `NO_SEAT` or `WRONG_STATE`.
 #[unsafe(no_mangle)]
-pub extern "C" fn fak_c_insert(seat: &mut Place, item: u64, ticket: &mut u64) -> i32
+pub extern "C" fn fak_c_insert(seat: &mut PaddedHandle, item: u64, ticket: &mut u64) -> i32
     ensures call { Called result (ticket.new ≡ ticket.old) SameQueue (InsertsOnce result item ticket.old ticket.new)
         (queue_in seat.old.handle.desk) (queue_in seat.new.handle.desk) }
     ensures spares { Spares queue_in seat.old.handle.desk seat.new.handle.desk }
@@ -96,7 +96,7 @@ pub extern "C" fn fak_c_insert(seat: &mut Place, item: u64, ticket: &mut u64) ->
 ///
 /// `OK`, `NOT_YET` if the claim is kept for `fak_c_try_take`, `WORN`, `EMPTY`, `NO_SEAT` or `WRONG_STATE`.
 #[unsafe(no_mangle)]
-pub extern "C" fn fak_c_delete(seat: &mut Place, ticket: &mut u64, item: &mut u64) -> i32
+pub extern "C" fn fak_c_delete(seat: &mut PaddedHandle, ticket: &mut u64, item: &mut u64) -> i32
     ensures call { Called result ((ticket.new ≡ ticket.old) × (item.new ≡ item.old)) SameQueue
         (DeletesOnce result ticket.old ticket.new item.old item.new) (queue_in seat.old.handle.desk)
         (queue_in seat.new.handle.desk) }
@@ -113,7 +113,7 @@ pub extern "C" fn fak_c_delete(seat: &mut Place, ticket: &mut u64, item: &mut u6
 ///
 /// `OK`, `NO_SEAT` or `WRONG_STATE`.
 #[unsafe(no_mangle)]
-pub extern "C" fn fak_c_shut(seat: &mut Place, was_open: &mut bool) -> i32
+pub extern "C" fn fak_c_shut(seat: &mut PaddedHandle, was_open: &mut bool) -> i32
     ensures call { Called result (was_open.new ≡ was_open.old) SameQueue (Shuts result was_open.old was_open.new)
         (queue_in seat.old.handle.desk) (queue_in seat.new.handle.desk) }
     ensures spares { Spares queue_in seat.old.handle.desk seat.new.handle.desk }
@@ -129,7 +129,7 @@ pub extern "C" fn fak_c_shut(seat: &mut Place, was_open: &mut bool) -> i32
 ///
 /// `OK` or `NO_SEAT`.
 #[unsafe(no_mangle)]
-pub extern "C" fn fak_c_pause(seat: &mut Place) -> i32
+pub extern "C" fn fak_c_pause(seat: &mut PaddedHandle) -> i32
     ensures call { Called result Unit SameQueue (Pauses result) (queue_in seat.old.handle.desk)
         (queue_in seat.new.handle.desk) }
     ensures spares { Spares queue_in seat.old.handle.desk seat.new.handle.desk }
@@ -146,7 +146,7 @@ pub extern "C" fn fak_c_pause(seat: &mut Place) -> i32
 /// `OK` or `NO_SEAT`.
 #[unsafe(no_mangle)]
 pub extern "C" fn fak_c_state(
-    seat: &mut Place,
+    seat: &mut PaddedHandle,
     state: &mut u32,
     ticket: &mut u64,
     left: &mut u64,
@@ -168,7 +168,7 @@ pub extern "C" fn fak_c_state(
 ///
 /// `OK` or `NO_SEAT`.
 #[unsafe(no_mangle)]
-pub extern "C" fn fak_c_count(seat: &mut Place, items: &mut i64) -> i32
+pub extern "C" fn fak_c_count(seat: &mut PaddedHandle, items: &mut i64) -> i32
     ensures call { Called result (items.new ≡ items.old) SameQueue (Counts result items.new)
         (queue_in seat.old.handle.desk) (queue_in seat.new.handle.desk) }
     ensures spares { Spares queue_in seat.old.handle.desk seat.new.handle.desk }
@@ -184,7 +184,7 @@ pub extern "C" fn fak_c_count(seat: &mut Place, items: &mut i64) -> i32
 ///
 /// `OK` or `NO_SEAT`.
 #[unsafe(no_mangle)]
-pub extern "C" fn fak_c_in_use(seat: &mut Place, cells: &mut i64, is_shut: &mut bool) -> i32
+pub extern "C" fn fak_c_in_use(seat: &mut PaddedHandle, cells: &mut i64, is_shut: &mut bool) -> i32
     ensures call { Called result ((cells.new ≡ cells.old) × (is_shut.new ≡ is_shut.old)) SameQueue
         (CountsCells result cells.new is_shut.new) (queue_in seat.old.handle.desk) (queue_in seat.new.handle.desk) }
     ensures spares { Spares queue_in seat.old.handle.desk seat.new.handle.desk }
@@ -202,7 +202,7 @@ pub extern "C" fn fak_c_in_use(seat: &mut Place, cells: &mut i64, is_shut: &mut 
 ///
 /// `OK` or `NO_SEAT`.
 #[unsafe(no_mangle)]
-pub extern "C" fn fak_c_drained(seat: &mut Place, is_drained: &mut bool) -> i32
+pub extern "C" fn fak_c_drained(seat: &mut PaddedHandle, is_drained: &mut bool) -> i32
     ensures call { Called result (is_drained.new ≡ is_drained.old) SameQueue (TellsDrained result is_drained.new)
         (queue_in seat.old.handle.desk) (queue_in seat.new.handle.desk) }
     ensures spares { Spares queue_in seat.old.handle.desk seat.new.handle.desk }

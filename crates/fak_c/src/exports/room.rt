@@ -6,14 +6,14 @@ ghost use Rattle.fak_handles.specs.room.Calls.{LooksAtRoom, Releases, SameRoom, 
 ghost use Rattle.fak_handles.specs.Kinds.{Spares, room_in};
 
 use fak_handles::code::{NO_SEAT, OK};
-use fak_handles::place::Place;
+use fak_handles::padded_handle::PaddedHandle;
 use fak_handles::room::codes::{of_release, of_tir};
 
 /// Claims the amount, 1 to 1,024, and writes the value that was found.
 ///
 /// `OK`, `WORN`, `FULL`, `BAD_LIMIT` or `NO_SEAT`.
 #[unsafe(no_mangle)]
-pub extern "C" fn fak_c_room_tir(seat: &mut Place, amount: u64, found: &mut i64) -> i32
+pub extern "C" fn fak_c_room_tir(seat: &mut PaddedHandle, amount: u64, found: &mut i64) -> i32
     ensures call { Called result (found.new ≡ found.old) SameRoom (TriesRoom result amount found.old found.new)
         (room_in seat.old.handle.desk) (room_in seat.new.handle.desk) }
     ensures spares { Spares room_in seat.old.handle.desk seat.new.handle.desk }
@@ -29,7 +29,7 @@ pub extern "C" fn fak_c_room_tir(seat: &mut Place, amount: u64, found: &mut i64)
 ///
 /// `OK`, `BAD_LIMIT` if it is out of range or more than the seat holds, or `NO_SEAT`.
 #[unsafe(no_mangle)]
-pub extern "C" fn fak_c_room_release(seat: &mut Place, amount: u64, found: &mut i64) -> i32
+pub extern "C" fn fak_c_room_release(seat: &mut PaddedHandle, amount: u64, found: &mut i64) -> i32
     ensures call { Called result (found.new ≡ found.old) SameRoom (Releases result amount found.old found.new)
         (room_in seat.old.handle.desk) (room_in seat.new.handle.desk) }
     ensures spares { Spares room_in seat.old.handle.desk seat.new.handle.desk }
@@ -45,7 +45,7 @@ pub extern "C" fn fak_c_room_release(seat: &mut Place, amount: u64, found: &mut 
 ///
 /// `OK` or `NO_SEAT`.
 #[unsafe(no_mangle)]
-pub extern "C" fn fak_c_room_state(seat: &mut Place, held: &mut u64, left: &mut u64) -> i32
+pub extern "C" fn fak_c_room_state(seat: &mut PaddedHandle, held: &mut u64, left: &mut u64) -> i32
     ensures call { Called result ((held.new ≡ held.old) × (left.new ≡ left.old)) SameRoom
         (LooksAtRoom result held.new left.new) (room_in seat.old.handle.desk) (room_in seat.new.handle.desk) }
     ensures spares { Spares room_in seat.old.handle.desk seat.new.handle.desk }

@@ -13,7 +13,7 @@ use crate::bundle::seat::BundleDesk;
 use crate::code::{BAD_LIMIT, MEMORY, OK};
 use crate::desk::Desk;
 use crate::opening::clear;
-use crate::place::Place;
+use crate::padded_handle::PaddedHandle;
 use crate::queue::opening::seat_queue;
 use fak_model::{LARGE_SEATS, LargeFault};
 use fak_queue::{Bundle, Queue, Seat};
@@ -92,22 +92,22 @@ fn seat_bundles(
     first: usize,
     width: usize,
     mut rest: IntoIter<Seat<u64>>,
-    places: &mut [Place],
+    handles: &mut [PaddedHandle],
 ) -> bool
     requires some { 0 < width }
-    requires fresh { into_iter_items rest ≡ fresh_seats (arc_value queue.now).object stint first (length places.old * width) }
-    ensures len { length places.new ≡ length places.old }
+    requires fresh { into_iter_items rest ≡ fresh_seats (arc_value queue.now).object stint first (length handles.old * width) }
+    ensures len { length handles.new ≡ length handles.old }
     ensures seated { IsTrue result → AreSeatedBelow (IsFreshBundle (arc_value queue.now) stint first width)
-        (length places.old) places.new }
+        (length handles.old) handles.new }
 {
-    for i in 0..places.len() {
+    for i in 0..handles.len() {
         let Some(own) = next_seats(alloc, &mut rest, width) else {
             return false;
         };
         let Some(desk) = bundle_desk(alloc, queue, own) else {
             return false;
         };
-        places[i].put(desk);
+        handles[i].put(desk);
     }
     true
 }
@@ -119,8 +119,8 @@ fn seat_all(
     stint: u64,
     width: usize,
     all: Vec<Seat<u64>>,
-    seats: &mut [Place],
-    bundles: &mut [Place],
+    seats: &mut [PaddedHandle],
+    bundles: &mut [PaddedHandle],
 ) -> bool
     requires some { 0 < width }
     requires fresh { all.items ≡ fresh_seats (arc_value queue.now).object stint 0 (length seats.old + length bundles.old * width) }
@@ -145,8 +145,8 @@ fn seat_all(
 /// held is given up.
 pub fn open_bundles(
     alloc: Global,
-    seats: &mut [Place],
-    bundles: &mut [Place],
+    seats: &mut [PaddedHandle],
+    bundles: &mut [PaddedHandle],
     width: u64,
     size: u64,
     stint: u64,

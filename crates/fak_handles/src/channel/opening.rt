@@ -9,7 +9,7 @@ use crate::channel::seat::{ChannelDesk, Item};
 use crate::code::{BAD_LIMIT, MEMORY, OK};
 use crate::desk::Desk;
 use crate::opening::clear;
-use crate::place::Place;
+use crate::padded_handle::PaddedHandle;
 use fak_channel::{Channel, UndealtSeats};
 use fak_model::LargeFault;
 use std::alloc::Global;
@@ -21,16 +21,16 @@ fn seat_channel(
     channel: &Arc<Channel<Item>, Global>,
     stint: u64,
     undealt: UndealtSeats<Item>,
-    places: &mut [Place],
+    handles: &mut [PaddedHandle],
 ) -> bool
-    requires { AreUndealt (arc_value channel.now) stint 0 (length places.old) undealt }
-    ensures len { length places.new ≡ length places.old }
+    requires { AreUndealt (arc_value channel.now) stint 0 (length handles.old) undealt }
+    ensures len { length handles.new ≡ length handles.old }
     ensures seated { IsTrue result → AreSeatedBelow (IsFreshChannel (arc_value channel.now) stint)
-        (length places.old) places.new }
+        (length handles.old) handles.new }
 {
     let _stint = stint;
     let mut rest = undealt;
-    for i in 0..places.len() {
+    for i in 0..handles.len() {
         let Some(seat) = rest.next() else {
             return false;
         };
@@ -44,26 +44,26 @@ fn seat_channel(
         let Ok(desk) = Box::new(alloc, Desk::Channel(inner)) else {
             return false;
         };
-        places[i].put(desk);
+        handles[i].put(desk);
     }
     true
 }
 
 /// Opens the channel with an end for each handle. What the handles held is given up.
-pub fn open_channel(alloc: Global, places: &mut [Place], size: u64, stint: u64) -> i32
-    ensures len { length places.new ≡ length places.old }
-    ensures opens { OpensChannel result size stint places.new }
+pub fn open_channel(alloc: Global, handles: &mut [PaddedHandle], size: u64, stint: u64) -> i32
+    ensures len { length handles.new ≡ length handles.old }
+    ensures opens { OpensChannel result size stint handles.new }
 {
-    clear(alloc, places);
-    match Channel::<Item>::open_undealt(alloc, size, places.len() as u64, stint) {
+    clear(alloc, handles);
+    match Channel::<Item>::open_undealt(alloc, size, handles.len() as u64, stint) {
         Ok((channel, undealt)) => {
             let Ok(channel) = Arc::new(alloc, channel) else {
                 return MEMORY;
             };
-            if seat_channel(alloc, &channel, stint, undealt, places) {
+            if seat_channel(alloc, &channel, stint, undealt, handles) {
                 OK
             } else {
-                clear(alloc, places);
+                clear(alloc, handles);
                 MEMORY
             }
         }

@@ -9,7 +9,7 @@ use crate::code::{BAD_LIMIT, MEMORY, OK};
 use crate::credit::seat::CreditDesk;
 use crate::desk::Desk;
 use crate::opening::clear;
-use crate::place::Place;
+use crate::padded_handle::PaddedHandle;
 use fak_count::{Credit, CreditSeat};
 use fak_model::LargeFault;
 use std::alloc::Global;
@@ -21,15 +21,15 @@ fn seat_credit(
     credit: &Arc<Credit, Global>,
     stint: u64,
     seats: Vec<CreditSeat>,
-    places: &mut [Place],
+    handles: &mut [PaddedHandle],
 ) -> bool
-    requires { seats.items ≡ fresh_seats (arc_value credit.now).object stint 0 (length places.old) }
-    ensures len { length places.new ≡ length places.old }
+    requires { seats.items ≡ fresh_seats (arc_value credit.now).object stint 0 (length handles.old) }
+    ensures len { length handles.new ≡ length handles.old }
     ensures seated { IsTrue result → AreSeatedBelow (IsFreshCredit (arc_value credit.now) stint)
-        (length places.old) places.new }
+        (length handles.old) handles.new }
 {
     let mut rest = seats.into_iter();
-    for i in 0..places.len() {
+    for i in 0..handles.len() {
         let Some(seat) = rest.next() else {
             return false;
         };
@@ -40,26 +40,26 @@ fn seat_credit(
         let Ok(desk) = Box::new(alloc, Desk::Credit(desk)) else {
             return false;
         };
-        places[i].put(desk);
+        handles[i].put(desk);
     }
     true
 }
 
 /// Opens the object with a seat for each handle. What the handles held is given up.
-pub fn open_credit(alloc: Global, places: &mut [Place], start: u64, stint: u64) -> i32
-    ensures len { length places.new ≡ length places.old }
-    ensures opens { OpensCredit result start stint places.new }
+pub fn open_credit(alloc: Global, handles: &mut [PaddedHandle], start: u64, stint: u64) -> i32
+    ensures len { length handles.new ≡ length handles.old }
+    ensures opens { OpensCredit result start stint handles.new }
 {
-    clear(alloc, places);
-    match Credit::open_large(alloc, start, places.len() as u64, stint) {
+    clear(alloc, handles);
+    match Credit::open_large(alloc, start, handles.len() as u64, stint) {
         Ok((credit, seats)) => {
             let Ok(credit) = Arc::new(alloc, credit) else {
                 return MEMORY;
             };
-            if seat_credit(alloc, &credit, stint, seats, places) {
+            if seat_credit(alloc, &credit, stint, seats, handles) {
                 OK
             } else {
-                clear(alloc, places);
+                clear(alloc, handles);
                 MEMORY
             }
         }

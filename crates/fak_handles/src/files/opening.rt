@@ -10,7 +10,7 @@ use crate::code::{BAD_LIMIT, MEMORY, OK};
 use crate::desk::Desk;
 use crate::files::seat::FileDesk;
 use crate::opening::clear;
-use crate::place::Place;
+use crate::padded_handle::PaddedHandle;
 use fak_files::{FileSeat, FileTable};
 use fak_model::LargeFault;
 use std::alloc::Global;
@@ -23,16 +23,16 @@ fn seat_table(
     entries: u64,
     stint: u64,
     seats: Vec<FileSeat>,
-    places: &mut [Place],
+    handles: &mut [PaddedHandle],
 ) -> bool
-    requires fresh { seats.items ≡ idle_seats (fresh_seats (arc_value table.now).object stint 0 (length places.old)) }
+    requires fresh { seats.items ≡ idle_seats (fresh_seats (arc_value table.now).object stint 0 (length handles.old)) }
     requires many { entries ≡ (arc_value table.now).entries }
-    ensures len { length places.new ≡ length places.old }
+    ensures len { length handles.new ≡ length handles.old }
     ensures seated { IsTrue result → AreSeatedBelow (IsFreshFile (arc_value table.now) stint)
-        (length places.old) places.new }
+        (length handles.old) handles.new }
 {
     let mut rest = seats.into_iter();
-    for i in 0..places.len() {
+    for i in 0..handles.len() {
         let Some(seat) = rest.next() else {
             return false;
         };
@@ -43,26 +43,26 @@ fn seat_table(
         let Ok(desk) = Box::new(alloc, Desk::Files(desk)) else {
             return false;
         };
-        places[i].put(desk);
+        handles[i].put(desk);
     }
     true
 }
 
 /// Opens the object with a seat for each handle. What the handles held is given up.
-pub fn open_table(alloc: Global, places: &mut [Place], entries: u64, stint: u64) -> i32
-    ensures len { length places.new ≡ length places.old }
-    ensures opens { OpensTable result entries stint places.new }
+pub fn open_table(alloc: Global, handles: &mut [PaddedHandle], entries: u64, stint: u64) -> i32
+    ensures len { length handles.new ≡ length handles.old }
+    ensures opens { OpensTable result entries stint handles.new }
 {
-    clear(alloc, places);
-    match FileTable::open_large(alloc, entries, places.len() as u64, stint) {
+    clear(alloc, handles);
+    match FileTable::open_large(alloc, entries, handles.len() as u64, stint) {
         Ok((table, seats)) => {
             let Ok(table) = Arc::new(alloc, table) else {
                 return MEMORY;
             };
-            if seat_table(alloc, &table, entries, stint, seats, places) {
+            if seat_table(alloc, &table, entries, stint, seats, handles) {
                 OK
             } else {
-                clear(alloc, places);
+                clear(alloc, handles);
                 MEMORY
             }
         }

@@ -8,7 +8,7 @@ ghost use Rattle.fak_handles.specs.Openings.{AreSeatedBelow, IsFreshQueue, Opens
 use crate::code::{BAD_LIMIT, MEMORY, OK};
 use crate::desk::Desk;
 use crate::opening::clear;
-use crate::place::Place;
+use crate::padded_handle::PaddedHandle;
 use crate::queue::seat::QueueDesk;
 use fak_model::LargeFault;
 use fak_queue::{Queue, Seat};
@@ -21,15 +21,15 @@ pub(crate) fn seat_queue(
     queue: &Arc<Queue<u64>, Global>,
     stint: u64,
     seats: Vec<Seat<u64>>,
-    places: &mut [Place],
+    handles: &mut [PaddedHandle],
 ) -> bool
-    requires { seats.items ≡ fresh_seats (arc_value queue.now).object stint 0 (length places.old) }
-    ensures len { length places.new ≡ length places.old }
+    requires { seats.items ≡ fresh_seats (arc_value queue.now).object stint 0 (length handles.old) }
+    ensures len { length handles.new ≡ length handles.old }
     ensures seated { IsTrue result → AreSeatedBelow (IsFreshQueue (arc_value queue.now) stint)
-        (length places.old) places.new }
+        (length handles.old) handles.new }
 {
     let mut rest = seats.into_iter();
-    for i in 0..places.len() {
+    for i in 0..handles.len() {
         let Some(seat) = rest.next() else {
             return false;
         };
@@ -40,26 +40,26 @@ pub(crate) fn seat_queue(
         let Ok(desk) = Box::new(alloc, Desk::Queue(desk)) else {
             return false;
         };
-        places[i].put(desk);
+        handles[i].put(desk);
     }
     true
 }
 
 /// Opens the object with a seat for each handle. What the handles held is given up.
-pub fn open_queue(alloc: Global, places: &mut [Place], size: u64, stint: u64) -> i32
-    ensures len { length places.new ≡ length places.old }
-    ensures opens { OpensQueue result size stint places.new }
+pub fn open_queue(alloc: Global, handles: &mut [PaddedHandle], size: u64, stint: u64) -> i32
+    ensures len { length handles.new ≡ length handles.old }
+    ensures opens { OpensQueue result size stint handles.new }
 {
-    clear(alloc, places);
-    match Queue::<u64>::open_large(alloc, size, places.len() as u64, stint) {
+    clear(alloc, handles);
+    match Queue::<u64>::open_large(alloc, size, handles.len() as u64, stint) {
         Ok((queue, seats)) => {
             let Ok(queue) = Arc::new(alloc, queue) else {
                 return MEMORY;
             };
-            if seat_queue(alloc, &queue, stint, seats, places) {
+            if seat_queue(alloc, &queue, stint, seats, handles) {
                 OK
             } else {
-                clear(alloc, places);
+                clear(alloc, handles);
                 MEMORY
             }
         }

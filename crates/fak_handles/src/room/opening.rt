@@ -8,7 +8,7 @@ ghost use Rattle.fak_handles.specs.Openings.{AreSeatedBelow, IsFreshRoom, OpensR
 use crate::code::{BAD_LIMIT, MEMORY, OK};
 use crate::desk::Desk;
 use crate::opening::clear;
-use crate::place::Place;
+use crate::padded_handle::PaddedHandle;
 use crate::room::seat::RoomDesk;
 use fak_count::{Room, RoomSeat};
 use fak_model::LargeFault;
@@ -21,15 +21,15 @@ fn seat_room(
     room: &Arc<Room, Global>,
     stint: u64,
     seats: Vec<RoomSeat>,
-    places: &mut [Place],
+    handles: &mut [PaddedHandle],
 ) -> bool
-    requires { seats.items ≡ fresh_seats (arc_value room.now).object stint 0 (length places.old) }
-    ensures len { length places.new ≡ length places.old }
+    requires { seats.items ≡ fresh_seats (arc_value room.now).object stint 0 (length handles.old) }
+    ensures len { length handles.new ≡ length handles.old }
     ensures seated { IsTrue result → AreSeatedBelow (IsFreshRoom (arc_value room.now) stint)
-        (length places.old) places.new }
+        (length handles.old) handles.new }
 {
     let mut rest = seats.into_iter();
-    for i in 0..places.len() {
+    for i in 0..handles.len() {
         let Some(seat) = rest.next() else {
             return false;
         };
@@ -40,26 +40,26 @@ fn seat_room(
         let Ok(desk) = Box::new(alloc, Desk::Room(desk)) else {
             return false;
         };
-        places[i].put(desk);
+        handles[i].put(desk);
     }
     true
 }
 
 /// Opens the object with a seat for each handle. What the handles held is given up.
-pub fn open_room(alloc: Global, places: &mut [Place], bound: u64, stint: u64) -> i32
-    ensures len { length places.new ≡ length places.old }
-    ensures opens { OpensRoom result bound stint places.new }
+pub fn open_room(alloc: Global, handles: &mut [PaddedHandle], bound: u64, stint: u64) -> i32
+    ensures len { length handles.new ≡ length handles.old }
+    ensures opens { OpensRoom result bound stint handles.new }
 {
-    clear(alloc, places);
-    match Room::open_large(alloc, bound, places.len() as u64, stint) {
+    clear(alloc, handles);
+    match Room::open_large(alloc, bound, handles.len() as u64, stint) {
         Ok((room, seats)) => {
             let Ok(room) = Arc::new(alloc, room) else {
                 return MEMORY;
             };
-            if seat_room(alloc, &room, stint, seats, places) {
+            if seat_room(alloc, &room, stint, seats, handles) {
                 OK
             } else {
-                clear(alloc, places);
+                clear(alloc, handles);
                 MEMORY
             }
         }

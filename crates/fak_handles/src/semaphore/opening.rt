@@ -8,7 +8,7 @@ ghost use Rattle.fak_handles.specs.Openings.{AreSeatedBelow, IsFreshSem, OpensSe
 use crate::code::{BAD_LIMIT, MEMORY, OK};
 use crate::desk::Desk;
 use crate::opening::clear;
-use crate::place::Place;
+use crate::padded_handle::PaddedHandle;
 use crate::semaphore::seat::SemDesk;
 use fak_model::LargeFault;
 use fak_sem::{SemSeat, Semaphore, StepSeat};
@@ -21,15 +21,15 @@ fn seat_semaphore(
     semaphore: &Arc<Semaphore<u64>, Global>,
     stint: u64,
     seats: Vec<SemSeat<u64>>,
-    places: &mut [Place],
+    handles: &mut [PaddedHandle],
 ) -> bool
-    requires { seats.items ≡ fresh_sem_seats (arc_value semaphore.now).object stint 0 (length places.old) }
-    ensures len { length places.new ≡ length places.old }
+    requires { seats.items ≡ fresh_sem_seats (arc_value semaphore.now).object stint 0 (length handles.old) }
+    ensures len { length handles.new ≡ length handles.old }
     ensures seated { IsTrue result → AreSeatedBelow (IsFreshSem (arc_value semaphore.now) stint)
-        (length places.old) places.new }
+        (length handles.old) handles.new }
 {
     let mut rest = seats.into_iter();
-    for i in 0..places.len() {
+    for i in 0..handles.len() {
         let Some(seat) = rest.next() else {
             return false;
         };
@@ -40,26 +40,32 @@ fn seat_semaphore(
         let Ok(desk) = Box::new(alloc, Desk::Semaphore(desk)) else {
             return false;
         };
-        places[i].put(desk);
+        handles[i].put(desk);
     }
     true
 }
 
 /// Opens the object with a seat for each handle. What the handles held is given up.
-pub fn open_semaphore(alloc: Global, places: &mut [Place], start: u64, size: u64, stint: u64) -> i32
-    ensures len { length places.new ≡ length places.old }
-    ensures opens { OpensSem result start size stint places.new }
+pub fn open_semaphore(
+    alloc: Global,
+    handles: &mut [PaddedHandle],
+    start: u64,
+    size: u64,
+    stint: u64,
+) -> i32
+    ensures len { length handles.new ≡ length handles.old }
+    ensures opens { OpensSem result start size stint handles.new }
 {
-    clear(alloc, places);
-    match Semaphore::<u64>::open_large(alloc, start, size, places.len() as u64, stint) {
+    clear(alloc, handles);
+    match Semaphore::<u64>::open_large(alloc, start, size, handles.len() as u64, stint) {
         Ok((semaphore, seats)) => {
             let Ok(semaphore) = Arc::new(alloc, semaphore) else {
                 return MEMORY;
             };
-            if seat_semaphore(alloc, &semaphore, stint, seats, places) {
+            if seat_semaphore(alloc, &semaphore, stint, seats, handles) {
                 OK
             } else {
-                clear(alloc, places);
+                clear(alloc, handles);
                 MEMORY
             }
         }

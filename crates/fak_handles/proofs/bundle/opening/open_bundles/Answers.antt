@@ -10,7 +10,7 @@ returns-then-seat_all-clause-opens c =
     let seats = c.seat_all.ensures.len in
     let bundles = c.seat_all.ensures.bundles in
     let made = c.in-Ok.ensures in
-    let n : length c.clear.new.places + length c.clear-2.new.places * c.args.width ≡ length c.seat_all.new.seats + length c.seat_all.new.bundles * c.args.width = cc in
+    let n : length c.clear.new.handles + length c.clear-2.new.handles * c.args.width ≡ length c.seat_all.new.seats + length c.seat_all.new.bundles * c.args.width = cc in
     inl (
       refl,
       subst (λ k. IsInLargeRange (IsLargeSize c.args.size) k c.args.stint) n made.0,

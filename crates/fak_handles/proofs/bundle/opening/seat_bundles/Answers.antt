@@ -15,7 +15,7 @@ loop-i-init c =
     let first : c.args.first ≡ c.args.first + 0 * c.args.width = omega arith in (
       refl,
       (λ name d low. absurd (omega (arith, low))),
-      (length c.args.places.now * c.args.width, c.requires.fresh ∙ ap (λ k. fresh_seats {M = Mark ℕ} (arc_value c.args.queue.now).object c.args.stint k (length c.args.places.now * c.args.width)) first),
+      (length c.args.handles.now * c.args.width, c.requires.fresh ∙ ap (λ k. fresh_seats {M = Mark ℕ} (arc_value c.args.queue.now).object c.args.stint k (length c.args.handles.now * c.args.width)) first),
     )
 
 pub bundle_desk-requires-clause-idle : goal.bundle_desk-requires-clause-idle
@@ -31,8 +31,8 @@ loop-i-preserved c =
     let next = next_dealt c.in-Some.own.items c.next_seats.new.rest.rest.items c.loop-i.rest.rest.items queue.object c.args.stint c.args.first c.args.width c.loop-i.i _ c.loop-i.invariant.2.1 c.in-Some.ensures.1 c.in-Some.ensures.0 in
     let long = c.loop-i.invariant.0 in
     let low = c.loop-i-test.true in (
-      length-set c.loop-i.places c.loop-i.i c.put.new.self ∙ long,
-      seated_next (IsFreshBundle queue c.args.stint c.args.first c.args.width) c.loop-i.i c.loop-i.places c.put.new.self (omega (arith, long, low)) c.loop-i.invariant.1
+      length-set c.loop-i.handles c.loop-i.i c.put.new.self ∙ long,
+      seated_next (IsFreshBundle queue c.args.stint c.args.first c.args.width) c.loop-i.i c.loop-i.handles c.put.new.self (omega (arith, long, low)) c.loop-i.invariant.1
           (record {
             desk = c.in-Some-bundle_desk.desk.value;
             held = c.put.ensures;

@@ -17,7 +17,7 @@ use Rattle.fak_handles.proofs.channel.opening.seat_channel.Goals as goal
 pub step_seat-requires : goal.step_seat-requires
 step_seat-requires c =
     let channel = arc_value c.args.channel.now in
-    let deals = c.in-Some.ensures channel c.args.stint c.loop-i.i (length c.args.places.now - c.loop-i.i) c.loop-i.invariant.2 in
+    let deals = c.in-Some.ensures channel c.args.stint c.loop-i.i (length c.args.handles.now - c.loop-i.i) c.loop-i.invariant.2 in
     let same : arc_value c.args.channel.now ≡ c.deref.result.now = search rules in
     let P : ChannelInfo Item → Type 0 = λ k. IsSeatOf k c.in-Some.seat in
     let Q : ChannelSeat Item → Type 0 = λ s. IsSeatOf channel s in
@@ -26,13 +26,13 @@ step_seat-requires c =
 pub loop-i-preserved : goal.loop-i-preserved
 loop-i-preserved c =
     let channel = arc_value c.args.channel.now in
-    let deals = c.in-Some.ensures channel c.args.stint c.loop-i.i (length c.args.places.now - c.loop-i.i) c.loop-i.invariant.2 in
+    let deals = c.in-Some.ensures channel c.args.stint c.loop-i.i (length c.args.handles.now - c.loop-i.i) c.loop-i.invariant.2 in
     let long = c.loop-i.invariant.0 in
     let low = c.loop-i-test.true in
-    let left : (length c.args.places.now - c.loop-i.i) - 1 ≡ length c.args.places.now - (c.loop-i.i + 1) = omega arith in
+    let left : (length c.args.handles.now - c.loop-i.i) - 1 ≡ length c.args.handles.now - (c.loop-i.i + 1) = omega arith in
     let F : ChannelDesk → Type 0 = λ d. (arc_value d.channel ≡ channel) × (d.seat.standing ≡ Idle) × (rest_of d.seat ≡ fresh_channel_seat channel c.args.stint c.loop-i.i) in (
-      length-set c.loop-i.places c.loop-i.i c.put.new.self ∙ long,
-      seated_next (IsFreshChannel channel c.args.stint) c.loop-i.i c.loop-i.places c.put.new.self (omega (arith, long, low)) c.loop-i.invariant.1
+      length-set c.loop-i.handles c.loop-i.i c.put.new.self ∙ long,
+      seated_next (IsFreshChannel channel c.args.stint) c.loop-i.i c.loop-i.handles c.put.new.self (omega (arith, long, low)) c.loop-i.invariant.1
           (record {
             desk = Channel c.in-Ok-new.inner;
             held = c.put.ensures ∙ ap (λ d. Some d) c.in-Ok-new-2.ensures.ok;

@@ -7,4 +7,4 @@ use Rattle.fak_handles.proofs.channel.opening.seat_channel.Given as goal
 -- the handles below this one have ends, and the others' ends are to come
 abbrev pub invariant-loop-i : goal.invariant-loop-i
 invariant-loop-i l =
-    (length l.places ≡ l.i-end) × AreSeatedBelow (IsFreshChannel (arc_value l.channel) l._stint) l.i l.places × AreUndealt (arc_value l.channel) l._stint l.i (l.i-end - l.i) l.rest
+    (length l.handles ≡ l.i-end) × AreSeatedBelow (IsFreshChannel (arc_value l.channel) l._stint) l.i l.handles × AreUndealt (arc_value l.channel) l._stint l.i (l.i-end - l.i) l.rest

@@ -16,8 +16,8 @@ loop-i-preserved c =
     let next = next_seat c.loop-i-test.true c.loop-i.invariant.2 c.in-Some.ensures.cases.0 in
     let long = c.loop-i.invariant.0 in
     let low = c.loop-i-test.true in (
-      length-set c.loop-i.places c.loop-i.i c.put.new.self ∙ long,
-      seated_next (IsFreshQueue (arc_value c.args.queue.now) c.args.stint) c.loop-i.i c.loop-i.places c.put.new.self (omega (arith, long, low)) c.loop-i.invariant.1
+      length-set c.loop-i.handles c.loop-i.i c.put.new.self ∙ long,
+      seated_next (IsFreshQueue (arc_value c.args.queue.now) c.args.stint) c.loop-i.i c.loop-i.handles c.put.new.self (omega (arith, long, low)) c.loop-i.invariant.1
           (record {
             desk = Queue c.of-desk.result;
             held = c.put.ensures ∙ ap (λ d. Some d) c.in-Ok-new.ensures.ok;

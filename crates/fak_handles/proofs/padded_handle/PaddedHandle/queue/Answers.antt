@@ -1,12 +1,12 @@
 use Rattle.std.proofs.Common.{ap, subst, sym, None, Some, MatchOption, ◌≡◌}
 use borrow.Follows.Closed.{read_of}
-use Rattle.fak_handles.specs.Kinds.{semaphore_in}
+use Rattle.fak_handles.specs.Kinds.{queue_in}
 use Rattle.fak_handles.proofs.Lent.{same_back}
-use Rattle.fak_handles.proofs.place.Place.semaphore.Goals as goal
+use Rattle.fak_handles.proofs.padded_handle.PaddedHandle.queue.Goals as goal
 
 pub returns-in-Some : goal.returns-in-Some
 returns-in-Some c =
     let is = c.in-Some.ensures.value in (
       ap (read_of _ _) (same_back c.args.self.now c.in-Some.desk.now is),
-      record { writes_back = tt; value = subst (λ k. MatchOption c.semaphore.result (semaphore_in k ≡ None) (λ r. semaphore_in k ≡ Some r.now)) (sym is) c.semaphore.ensures.value },
+      record { writes_back = tt; value = subst (λ k. MatchOption c.queue.result (queue_in k ≡ None) (λ r. queue_in k ≡ Some r.now)) (sym is) c.queue.ensures.value },
     )

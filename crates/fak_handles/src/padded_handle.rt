@@ -18,13 +18,13 @@ use std::mem;
 /// bytes, wherever C puts it. The calls that open, move and give up write the handle; the others write the seat behind it.
 #[derive(Drop)]
 #[repr(C)]
-pub struct Place {
+pub struct PaddedHandle {
     pub(crate) before: [u64; 8],
     pub handle: Handle,
     pub(crate) after: [u64; 7],
 }
 
-impl Place {
+impl PaddedHandle {
     ghost use Rattle.std.specs.Borrow.{sem};
     ghost use Rattle.fak_handles.specs.DeskLending.{LendsBundleAt, LendsChannelAt, LendsCreditAt, LendsFilesAt, LendsQueueAt, LendsRoomAt, LendsSemaphoreAt};
     ghost use Rattle.fak_handles.specs.Kinds.{bundle_in, channel_in, credit_in, files_in, queue_in, room_in, semaphore_in};
@@ -133,5 +133,5 @@ fn crosses<T: Send>() {}
 
 /// Holds since a handle may go to another thread: needs the proof of that.
 pub fn handles_cross() {
-    crosses::<Place>()
+    crosses::<PaddedHandle>()
 }

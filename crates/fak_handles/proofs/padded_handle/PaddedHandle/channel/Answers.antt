@@ -3,7 +3,7 @@ use borrow.Follows.Closed.{read_of}
 use Rattle.core.specs.Option.{ghost_name_of}
 use Rattle.fak_handles.specs.DeskLending.{with_channel_at}
 use Rattle.fak_handles.specs.Kinds.{channel_in}
-use Rattle.fak_handles.proofs.place.Place.channel.Goals as goal
+use Rattle.fak_handles.proofs.padded_handle.PaddedHandle.channel.Goals as goal
 
 pub returns-in-Some : goal.returns-in-Some
 returns-in-Some c =
