@@ -19,6 +19,12 @@ pub enum Fault {
     /// A part with a queue: an item was lost, came out twice or out of order, or was left.
     #[error("soak: a queue did not pass each item on once and in order")]
     Queue,
+    /// A part with bursts, as a part with a queue.
+    #[error("soak: bursts did not pass each item on once and in order")]
+    Bursts,
+    /// A part with a channel: an item was lost, came out twice or out of order, or came back changed; or the channel was not closed once.
+    #[error("soak: a channel did not pass each item on once and in order")]
+    Channel,
     /// A part that shuts queues: an inserted item was neither deleted nor left, or an item was not dropped exactly once.
     #[error("soak: a shut queue did not hand out or drop each item once")]
     Shut,

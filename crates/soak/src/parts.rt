@@ -1,5 +1,7 @@
 //! The parts, run one after the other.
 
+use crate::bursts::burst_part;
+use crate::channels::channel_part;
 use crate::counts::{credit_part, room_part};
 use crate::crew::{Crew, PAIRS};
 use crate::fault::Fault;
@@ -44,6 +46,10 @@ enum Part {
     Alone(u64),
     /// Items through a queue of this many cells, by all threads.
     Queue(u64),
+    /// Items through a queue of this many cells by bursts, by all threads.
+    Bursts(u64),
+    /// Items through a channel of this many cells.
+    Channel(u64),
     /// Queues that are shut.
     Shut,
     /// A semaphore with this many cells for the items that wait.
@@ -63,6 +69,12 @@ const ROWS: &[Row] = &[
     (Part::Queue(7), 7),
     (Part::Queue(64), 64),
     (Part::Queue(1024), 1024),
+    (Part::Bursts(3), 3),
+    (Part::Bursts(64), 64),
+    (Part::Bursts(1024), 1024),
+    (Part::Channel(1), 1),
+    (Part::Channel(64), 64),
+    (Part::Channel(1024), 1024),
     (Part::Shut, 5),
     (Part::Semaphore(2), 2),
     (Part::Semaphore(64), 64),
@@ -77,6 +89,8 @@ fn run<R: Machine>(rt: &R, alloc: Global, part: Part, calls: u64) -> Result<(), 
     match part {
         Part::Alone(size) => alone_part(rt, alloc, size, calls),
         Part::Queue(size) => queue_part(rt, alloc, size, calls / PAIRS),
+        Part::Bursts(size) => burst_part(rt, alloc, size, calls / PAIRS),
+        Part::Channel(size) => channel_part(rt, alloc, size, calls / PAIRS),
         Part::Shut => shut_part(rt, alloc, calls),
         Part::Semaphore(size) => semaphore_part(rt, alloc, size, calls / PAIRS),
         Part::Room => room_part(rt, alloc, calls),
