@@ -16,7 +16,7 @@ static frame_cache caches[PROCESSORS];
 
 static void refill(frame_cache *cache, uint32_t number) {
     processor_state *state = &processor_states[number];
-    cache->count = get_some(&frames[number], cache->frames, BURST);
+    cache->count = get_some(&frame_bundles[number], cache->frames, BURST);
     state->refills++;
     state->refilled += cache->count;
 }
@@ -24,7 +24,7 @@ static void refill(frame_cache *cache, uint32_t number) {
 /* The frames that were given back last stay: their lines may still be in the processor's own cache. */
 static void drain(frame_cache *cache, uint32_t number) {
     processor_state *state = &processor_states[number];
-    put_all(&frames[number], cache->frames, BURST);
+    put_all(&frame_bundles[number], cache->frames, BURST);
     cache->count -= BURST;
     for (uint64_t i = 0; i < cache->count; i++)
         cache->frames[i] = cache->frames[BURST + i];
@@ -62,7 +62,7 @@ void empty_caches(uint32_t n) {
             fail("frames were lost, or came from nowhere, in the cache of processor", i);
         if ((FEW_FRAMES == 0 && s->refills > s->taken / BURST + 1) || s->drains > s->given / BURST)
             fail("too many bursts of the cache of processor", i);
-        put_all(&frames[i], cache->frames, cache->count);
+        put_all(&frame_bundles[i], cache->frames, cache->count);
         cache->count = 0;
     }
 }

@@ -11,7 +11,7 @@ extern unsigned char image_end[]; /* kernel.ld */
 
 static const uint64_t stint = UINT64_C(1) << 40;
 
-fak_c_seat frames[PROCESSORS], frame_carriers[PROCESSORS];
+fak_c_seat frame_bundles[PROCESSORS], frame_carriers[PROCESSORS];
 static unsigned char *block, *first_frame;
 static uint64_t frame_count;
 
@@ -32,12 +32,12 @@ void open_frames(uint32_t n) {
     if (FEW_FRAMES > 0 && frame_count > FEW_FRAMES)
         frame_count = FEW_FRAMES;
     fak_c_block_begin(block, bytes);
-    expect_ok(fak_c_open_bundles(frame_carriers, carriers, frames, n, BURST, frame_count, stint), "open the page frames");
+    expect_ok(fak_c_open_bundles(frame_carriers, carriers, frame_bundles, n, BURST, frame_count, stint), "open the page frames");
     say("%u page frames of %u kB of memory in a list in %u bytes\n", frame_count, memory_bytes() / 1024, (uint64_t)fak_c_block_end());
     for (uint64_t i = 0, count; i < frame_count; i += count) {
         for (count = 0; count < BURST && i + count < frame_count; count++)
             burst[count] = (uintptr_t)(first_frame + (i + count) * PAGE);
-        put_all(&frames[0], burst, count);
+        put_all(&frame_bundles[0], burst, count);
     }
 }
 
@@ -52,7 +52,7 @@ static void check_frame(uint64_t frame) {
 /* Checks that all frames are in the list, each once, and that its memory is free when its seats have left. */
 uint64_t leave_frames(uint32_t n) {
     uint64_t count = 0, got, burst[BURST] = {0};
-    while ((got = get_some(&frames[0], burst, BURST)) > 0) {
+    while ((got = get_some(&frame_bundles[0], burst, BURST)) > 0) {
         for (uint64_t i = 0; i < got; i++)
             check_frame(burst[i]);
         count += got;
@@ -60,7 +60,7 @@ uint64_t leave_frames(uint32_t n) {
     if (count != frame_count)
         fail("frames are lost, of which there are", count);
     for (uint32_t i = 0; i < n; i++)
-        expect_ok(fak_c_leave(&frames[i]), "leave the frames");
+        expect_ok(fak_c_leave(&frame_bundles[i]), "leave the frames");
     for (uint32_t i = 0; FEW_FRAMES > 0 && i < n; i++)
         expect_ok(fak_c_leave(&frame_carriers[i]), "leave the frames");
     if (!fak_c_block_is_free(block))

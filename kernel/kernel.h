@@ -45,7 +45,7 @@ void leave_objects(uint32_t processors);
 #define FEW_FRAMES 0
 #endif
 
-extern fak_c_seat frames[PROCESSORS], frame_carriers[PROCESSORS];
+extern fak_c_seat frame_bundles[PROCESSORS], frame_carriers[PROCESSORS];
 
 void open_frames(uint32_t processors);
 uint64_t leave_frames(uint32_t processors); /* returns how many there are; each is in the list */

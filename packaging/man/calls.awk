@@ -59,10 +59,11 @@ inside {
     inside = !ends
     next
 }
-# What is for C++, the guard of the header, and the macros for the sanitizer, are left out.
+# What is for C++, the guard of the header, the macros for the sanitizer, and what refers to the version's symbol, are left out.
 /^#ifdef __cplusplus/ { of_cpp = 1; next }
 of_cpp { if (/^#endif/) of_cpp = 0; next }
 /^#(if|ifdef|ifndef|elif|else|endif|include)/ || /__tsan_/ { next }
+/FAK_C_KEPT|^extern const char/ { next }
 /^#define FAK_(C_(H|THREAD_SANITIZER|GIVES|GETS)|CHANNEL_H)/ { next }
 /^}$/ && body { body = 0; next }
 body { next }
