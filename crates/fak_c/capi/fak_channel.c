@@ -258,6 +258,7 @@ static bool wait_for_end(fak_channel_shared *shared, fak_channel_lender *lender,
 /* Lends an end of an open shared channel. A wake-up is for one sleeper, and two ends may come back before it wakes. So a caller that has
  * found an end wakes the next sleeper if there is another end. A caller that finds all ends worn wakes the next one, too. */
 static int32_t lend(fak_channel_shared *shared, fak_channel_lender *lender, uint64_t deadline, fak_channel_end **end) {
+    bool is_in_time = deadline != NO_TIME;
     if (lender->count == 0)
         return FAK_C_NO_SEAT;
     while ((*end = take_idle(lender)) == NULL) {
@@ -265,8 +266,10 @@ static int32_t lend(fak_channel_shared *shared, fak_channel_lender *lender, uint
             wake_sleeper(shared, lender);
             return FAK_C_WORN;
         }
-        if (deadline == NO_TIME || !wait_for_end(shared, lender, deadline))
+        if (!is_in_time)
             return FAK_C_GAVE_UP;
+        /* An end may have come back as the deadline passed, so one more look follows. */
+        is_in_time = wait_for_end(shared, lender, deadline);
     }
     if (has_idle(lender))
         wake_sleeper(shared, lender);
@@ -454,10 +457,11 @@ int32_t fak_channel_shared_leave(fak_channel_shared *shared) {
 #include <time.h>
 #include <unistd.h>
 
-/* The token of an end: 1 if it is set. It has a cache line of its own. */
+/* The token of an end: 1 if it is set; and how many threads are parked at it. It has a cache line of its own. */
 struct token {
     uint32_t is_set;
-    uint32_t unused[15];
+    uint32_t parked;
+    uint32_t unused[14];
 };
 
 /* What the ends of a channel share, on a cache line of its own, too. */
@@ -488,27 +492,6 @@ static void sleep_on(uint32_t *is_set, uint64_t deadline) {
         sched_yield();
 }
 
-static bool park(void *context, uint64_t number, uint64_t deadline) {
-    uint32_t *is_set = &((struct channel *)context)->tokens[number].is_set;
-    for (;;) {
-        /* It takes the token; what the waking thread wrote before is there. It comes before the look at the clock, so that a token that
-         * was set in time counts after the deadline, too. */
-        if (__atomic_exchange_n(is_set, 0, __ATOMIC_SEQ_CST) != 0)
-            return true;
-        if (deadline != FAK_CHANNEL_NEVER && now() >= deadline)
-            return false;
-        sleep_on(is_set, deadline);
-    }
-}
-
-static void unpark(void *context, uint64_t number) {
-    uint32_t *is_set = &((struct channel *)context)->tokens[number].is_set;
-    /* It must come before the wake-up, which would else find the token clear and the thread on its way to sleep. A token that was set
-     * already has its wake-up. */
-    if (__atomic_exchange_n(is_set, 1, __ATOMIC_SEQ_CST) == 0)
-        syscall(SYS_futex, is_set, FUTEX_WAKE_PRIVATE, 1, NULL, NULL, 0);
-}
-
 /* Spins for less than a microsecond, and yields from the eighth time on. */
 static void pause_or_yield(void *context, uint64_t rounds) {
     (void)context;
@@ -525,6 +508,51 @@ static void pause_or_yield(void *context, uint64_t rounds) {
     }
 }
 
+/* How often a thread looks at its token before it sleeps: for some microseconds, in which most wake-ups come. */
+#define POLLS 20
+
+/* Takes the token, if it is set in this short time. What the waking thread wrote before is there. */
+static bool poll_token(uint32_t *is_set) {
+    for (uint64_t rounds = 0; rounds < POLLS; rounds++) {
+        if (__atomic_load_n(is_set, __ATOMIC_SEQ_CST) != 0 && __atomic_exchange_n(is_set, 0, __ATOMIC_SEQ_CST) != 0)
+            return true;
+        pause_or_yield(NULL, rounds);
+    }
+    return false;
+}
+
+/* Takes the token once it is set. False if the deadline has passed. */
+static bool sleep_for(uint32_t *is_set, uint64_t deadline) {
+    for (;;) {
+        /* It comes before the look at the clock, so that a token that was set in time counts after the deadline, too. */
+        if (__atomic_exchange_n(is_set, 0, __ATOMIC_SEQ_CST) != 0)
+            return true;
+        if (deadline != FAK_CHANNEL_NEVER && now() >= deadline)
+            return false;
+        sleep_on(is_set, deadline);
+    }
+}
+
+static bool park(void *context, uint64_t number, uint64_t deadline) {
+    struct token *token = &((struct channel *)context)->tokens[number];
+    bool is_taken;
+    if ((deadline == FAK_CHANNEL_NEVER || now() < deadline) && poll_token(&token->is_set))
+        return true;
+    /* It must come before the next look at the token: a thread that sets the token after that look finds a parked thread, and wakes it. */
+    __atomic_fetch_add(&token->parked, 1, __ATOMIC_SEQ_CST);
+    is_taken = sleep_for(&token->is_set, deadline);
+    __atomic_fetch_sub(&token->parked, 1, __ATOMIC_SEQ_CST);
+    return is_taken;
+}
+
+static void unpark(void *context, uint64_t number) {
+    struct token *token = &((struct channel *)context)->tokens[number];
+    /* It must come before the wake-up, which would else find the token clear and the thread on its way to sleep, and before the look for
+     * parked threads. A token that was set already has its wake-up. */
+    if (__atomic_exchange_n(&token->is_set, 1, __ATOMIC_SEQ_CST) == 0 && __atomic_load_n(&token->parked, __ATOMIC_SEQ_CST) != 0)
+        syscall(SYS_futex, &token->is_set, FUTEX_WAKE_PRIVATE, 1, NULL, NULL, 0);
+}
+
 static struct channel *make_channel(size_t n) {
     size_t bytes = sizeof(struct channel) + n * sizeof(struct token);
     struct channel *channel = aligned_alloc(64, bytes);
@@ -532,7 +560,7 @@ static struct channel *make_channel(size_t n) {
         return NULL;
     channel->waiting = (fak_channel_waiting){park, unpark, pause_or_yield, channel, 0, n, 0};
     for (size_t i = 0; i < n; i++)
-        channel->tokens[i].is_set = 0;
+        channel->tokens[i].is_set = channel->tokens[i].parked = 0;
     return channel;
 }
 

@@ -27,7 +27,8 @@
  * Never sleep on a refusal of a try by means of your own (fak_c.h): the calls below that sleep do it right.
  *
  * What the calls use. Stack: below 512 bytes in a step; below 8,192 in fak_channel_open. The calls of ends and of a shared channel add
- * below 512 bytes. Heap: what "Sizes" below says; only calls that open allocate. Processor time: a sleeping thread uses none.
+ * below 512 bytes. Heap: what "Sizes" below says; only calls that open allocate. Processor time: a sleeping thread uses none. Before it
+ * sleeps on a futex, a thread looks for a wake-up for some microseconds.
  *
  * To open a channel of 64 cells with 64 ends, and to leave it with all, took about 100 microseconds on memory that nobody had touched, and
  * 15 on memory from before; with 1,024 of each, 1,300 and 250. The processors were busy. So open a channel once, and not for each job. */
