@@ -1,5 +1,6 @@
--- Which seat a handle has.
+-- Which seat a handle has, and what the calls that move it do.
 use Rattle.std.specs.Prelude.{◌≡◌, ℤ, pos, Option, Some, None}
+use Rattle.std.specs.Box.{with_value}
 use Rattle.fak_queue.specs.declared.state.SeatState.TheVariants as state
 use Rattle.fak_queue.specs.Queues.{state_of}
 use Rattle.fak_count.specs.Rooms.{held_amount}
@@ -19,73 +20,58 @@ use Rattle.fak_handles.specs.declared.bundle.seat.BundleDesk.{BundleDesk}
 
 abbrev pub queue_in : Option Desk → Option QueueDesk
 queue_in (Some (Queue d)) = Some d
-queue_in (Some (Semaphore d)) = None
-queue_in (Some (Room d)) = None
-queue_in (Some (Credit d)) = None
-queue_in (Some (Files d)) = None
-queue_in (Some (Channel d)) = None
-queue_in (Some (Bundle d)) = None
-queue_in None = None
+queue_in _ = None
 
 abbrev pub semaphore_in : Option Desk → Option SemDesk
-semaphore_in (Some (Queue d)) = None
 semaphore_in (Some (Semaphore d)) = Some d
-semaphore_in (Some (Room d)) = None
-semaphore_in (Some (Credit d)) = None
-semaphore_in (Some (Files d)) = None
-semaphore_in (Some (Channel d)) = None
-semaphore_in (Some (Bundle d)) = None
-semaphore_in None = None
+semaphore_in _ = None
 
 abbrev pub room_in : Option Desk → Option RoomDesk
-room_in (Some (Queue d)) = None
-room_in (Some (Semaphore d)) = None
 room_in (Some (Room d)) = Some d
-room_in (Some (Credit d)) = None
-room_in (Some (Files d)) = None
-room_in (Some (Channel d)) = None
-room_in (Some (Bundle d)) = None
-room_in None = None
+room_in _ = None
 
 abbrev pub credit_in : Option Desk → Option CreditDesk
-credit_in (Some (Queue d)) = None
-credit_in (Some (Semaphore d)) = None
-credit_in (Some (Room d)) = None
 credit_in (Some (Credit d)) = Some d
-credit_in (Some (Files d)) = None
-credit_in (Some (Channel d)) = None
-credit_in (Some (Bundle d)) = None
-credit_in None = None
+credit_in _ = None
 
 abbrev pub files_in : Option Desk → Option FileDesk
-files_in (Some (Queue d)) = None
-files_in (Some (Semaphore d)) = None
-files_in (Some (Room d)) = None
-files_in (Some (Credit d)) = None
 files_in (Some (Files d)) = Some d
-files_in (Some (Channel d)) = None
-files_in (Some (Bundle d)) = None
-files_in None = None
+files_in _ = None
 
 abbrev pub channel_in : Option Desk → Option ChannelDesk
-channel_in (Some (Queue d)) = None
-channel_in (Some (Semaphore d)) = None
-channel_in (Some (Room d)) = None
-channel_in (Some (Credit d)) = None
-channel_in (Some (Files d)) = None
 channel_in (Some (Channel d)) = Some d.value
-channel_in (Some (Bundle d)) = None
-channel_in None = None
+channel_in _ = None
 
 abbrev pub bundle_in : Option Desk → Option BundleDesk
-bundle_in (Some (Queue d)) = None
-bundle_in (Some (Semaphore d)) = None
-bundle_in (Some (Room d)) = None
-bundle_in (Some (Credit d)) = None
-bundle_in (Some (Files d)) = None
-bundle_in (Some (Channel d)) = None
 bundle_in (Some (Bundle d)) = Some d.value
-bundle_in None = None
+bundle_in _ = None
+
+-- ---- a desk with another seat of its kind
+
+abbrev pub with_queue : Desk → QueueDesk → Desk
+with_queue d e = Queue e
+
+abbrev pub with_semaphore : Desk → SemDesk → Desk
+with_semaphore d e = Semaphore e
+
+abbrev pub with_room : Desk → RoomDesk → Desk
+with_room d e = Room e
+
+abbrev pub with_credit : Desk → CreditDesk → Desk
+with_credit d e = Credit e
+
+abbrev pub with_files : Desk → FileDesk → Desk
+with_files d e = Files e
+
+abbrev pub with_channel : Desk → ChannelDesk → Desk
+with_channel (Channel d) e = Channel (with_value d e)
+with_channel d e = d
+
+abbrev pub with_bundle : Desk → BundleDesk → Desk
+with_bundle (Bundle d) e = Bundle (with_value d e)
+with_bundle d e = d
+
+-- ---- handles
 
 -- a handle that has no seat of the kind keeps what it has
 abbrev pub Spares : {D : Type 0} → (Option Desk → Option D) → Option Desk → Option Desk → Type 0

@@ -51,58 +51,28 @@ Opens code InRange Opened handles =
 
 abbrev pub IsFreshQueue : QueueInfo → ℕ → ℕ → Desk → Type 0
 IsFreshQueue queue stint name (Queue d) = (arc_value d.queue ≡ queue) × (d.seat ≡ seat_info queue.object name stint [])
-IsFreshQueue queue stint name (Semaphore d) = ⊥
-IsFreshQueue queue stint name (Room d) = ⊥
-IsFreshQueue queue stint name (Credit d) = ⊥
-IsFreshQueue queue stint name (Files d) = ⊥
-IsFreshQueue queue stint name (Channel d) = ⊥
-IsFreshQueue queue stint name (Bundle d) = ⊥
+IsFreshQueue queue stint name _ = ⊥
 
 abbrev pub IsFreshRoom : RoomInfo → ℕ → ℕ → Desk → Type 0
-IsFreshRoom room stint name (Queue d) = ⊥
-IsFreshRoom room stint name (Semaphore d) = ⊥
 IsFreshRoom room stint name (Room d) = (arc_value d.room ≡ room) × (d.seat ≡ seat_info room.object name stint [])
-IsFreshRoom room stint name (Credit d) = ⊥
-IsFreshRoom room stint name (Files d) = ⊥
-IsFreshRoom room stint name (Channel d) = ⊥
-IsFreshRoom room stint name (Bundle d) = ⊥
+IsFreshRoom room stint name _ = ⊥
 
 abbrev pub IsFreshCredit : CreditInfo → ℕ → ℕ → Desk → Type 0
-IsFreshCredit credit stint name (Queue d) = ⊥
-IsFreshCredit credit stint name (Semaphore d) = ⊥
-IsFreshCredit credit stint name (Room d) = ⊥
 IsFreshCredit credit stint name (Credit d) = (arc_value d.credit ≡ credit) × (d.seat ≡ seat_info credit.object name stint [])
-IsFreshCredit credit stint name (Files d) = ⊥
-IsFreshCredit credit stint name (Channel d) = ⊥
-IsFreshCredit credit stint name (Bundle d) = ⊥
+IsFreshCredit credit stint name _ = ⊥
 
 abbrev pub IsFreshFile : FileTableInfo → ℕ → ℕ → Desk → Type 0
-IsFreshFile table stint name (Queue d) = ⊥
-IsFreshFile table stint name (Semaphore d) = ⊥
-IsFreshFile table stint name (Room d) = ⊥
-IsFreshFile table stint name (Credit d) = ⊥
 IsFreshFile table stint name (Files d) = (arc_value d.table ≡ table) × (d.seat ≡ file_seat (seat_info table.object name stint []) Nothing)
-IsFreshFile table stint name (Channel d) = ⊥
-IsFreshFile table stint name (Bundle d) = ⊥
+IsFreshFile table stint name _ = ⊥
 
 abbrev pub IsFreshSem : SemInfo → ℕ → ℕ → Desk → Type 0
-IsFreshSem sem stint name (Queue d) = ⊥
 IsFreshSem sem stint name (Semaphore d) =
     (arc_value d.semaphore ≡ sem) × (d.seat.standing ≡ Idle) × (d.seat.seat ≡ record { object = sem.object; name = name; stint = stint; credit_seen = []; queue_seen = [] })
-IsFreshSem sem stint name (Room d) = ⊥
-IsFreshSem sem stint name (Credit d) = ⊥
-IsFreshSem sem stint name (Files d) = ⊥
-IsFreshSem sem stint name (Channel d) = ⊥
-IsFreshSem sem stint name (Bundle d) = ⊥
+IsFreshSem sem stint name _ = ⊥
 
 abbrev pub IsFreshChannel : ChannelInfo Item → ℕ → ℕ → Desk → Type 0
-IsFreshChannel channel stint name (Queue d) = ⊥
-IsFreshChannel channel stint name (Semaphore d) = ⊥
-IsFreshChannel channel stint name (Room d) = ⊥
-IsFreshChannel channel stint name (Credit d) = ⊥
-IsFreshChannel channel stint name (Files d) = ⊥
 IsFreshChannel channel stint name (Channel d) = (arc_value d.value.channel ≡ channel) × (d.value.seat.standing ≡ standing.Idle) × (rest_of d.value.seat ≡ fresh_channel_seat channel stint name)
-IsFreshChannel channel stint name (Bundle d) = ⊥
+IsFreshChannel channel stint name _ = ⊥
 
 -- ---- each kind of object, as it is opened: each handle has a seat of one object
 

@@ -9,6 +9,7 @@ pub mod credit;
 pub mod desk;
 pub mod files;
 pub mod handle;
+pub mod kind;
 pub mod opening;
 pub mod padded_handle;
 mod parts;

@@ -8,6 +8,7 @@ ghost use Rattle.fak_handles.specs.Kinds.{Spares, bundle_in};
 
 use fak_handles::bundle::codes::{of_delete_burst, of_fill_burst, of_insert_burst, of_take_burst};
 use fak_handles::bundle::opening::are_numbers_of_seats;
+use fak_handles::bundle::seat::BundleDesk;
 use fak_handles::code::{BAD_LIMIT, NO_SEAT, OK};
 use fak_handles::padded_handle::PaddedHandle;
 use std::alloc::Global;
@@ -55,7 +56,7 @@ pub extern "C" fn fak_c_insert_burst(
         (bundle_in bundle.old.handle.desk) (bundle_in bundle.new.handle.desk) }
     ensures spares { Spares bundle_in bundle.old.handle.desk bundle.new.handle.desk }
 {
-    let Some(desk) = bundle.bundle() else {
+    let Some(desk) = bundle.lend::<BundleDesk>() else {
         return NO_SEAT;
     };
     if items.is_empty() {
@@ -74,7 +75,7 @@ pub extern "C" fn fak_c_try_fill_burst(bundle: &mut PaddedHandle, left: &mut u64
         (bundle_in bundle.old.handle.desk) (bundle_in bundle.new.handle.desk) }
     ensures spares { Spares bundle_in bundle.old.handle.desk bundle.new.handle.desk }
 {
-    let Some(desk) = bundle.bundle() else {
+    let Some(desk) = bundle.lend::<BundleDesk>() else {
         return NO_SEAT;
     };
     let tried = desk.try_fill();
@@ -101,7 +102,7 @@ pub extern "C" fn fak_c_delete_burst(
         (bundle_in bundle.old.handle.desk) (bundle_in bundle.new.handle.desk) }
     ensures spares { Spares bundle_in bundle.old.handle.desk bundle.new.handle.desk }
 {
-    let Some(desk) = bundle.bundle() else {
+    let Some(desk) = bundle.lend::<BundleDesk>() else {
         return NO_SEAT;
     };
     if items.is_empty() {
@@ -128,7 +129,7 @@ pub extern "C" fn fak_c_try_take_burst(
         (bundle_in bundle.old.handle.desk) (bundle_in bundle.new.handle.desk) }
     ensures spares { Spares bundle_in bundle.old.handle.desk bundle.new.handle.desk }
 {
-    let Some(desk) = bundle.bundle() else {
+    let Some(desk) = bundle.lend::<BundleDesk>() else {
         return NO_SEAT;
     };
     let tried = desk.try_take(items);
@@ -154,7 +155,7 @@ pub extern "C" fn fak_c_bundle_state(
         (bundle_in bundle.old.handle.desk) (bundle_in bundle.new.handle.desk) }
     ensures spares { Spares bundle_in bundle.old.handle.desk bundle.new.handle.desk }
 {
-    let Some(desk) = bundle.bundle() else {
+    let Some(desk) = bundle.lend::<BundleDesk>() else {
         return NO_SEAT;
     };
     desk.state(state, ticket, waiting);

@@ -8,7 +8,7 @@ ghost use Rattle.fak_handles.specs.Kinds.{Spares, channel_in};
 use fak_handles::channel::codes::{
     of_begin_close, of_begin_receive, of_begin_send, of_channel_state, of_give_up, of_steps,
 };
-use fak_handles::channel::seat::Item;
+use fak_handles::channel::seat::{ChannelDesk, Item};
 use fak_handles::code::{NO_SEAT, OK};
 use fak_handles::padded_handle::PaddedHandle;
 
@@ -21,7 +21,7 @@ pub extern "C" fn fak_channel_begin_send(end: &mut PaddedHandle, item: &Item) ->
         (channel_in end.old.handle.desk) (channel_in end.new.handle.desk) }
     ensures spares { Spares channel_in end.old.handle.desk end.new.handle.desk }
 {
-    let Some(desk) = end.channel() else {
+    let Some(desk) = end.lend::<ChannelDesk>() else {
         return NO_SEAT;
     };
     let begun = desk.begin_send(*item);
@@ -37,7 +37,7 @@ pub extern "C" fn fak_channel_begin_receive(end: &mut PaddedHandle) -> i32
         (channel_in end.old.handle.desk) (channel_in end.new.handle.desk) }
     ensures spares { Spares channel_in end.old.handle.desk end.new.handle.desk }
 {
-    let Some(desk) = end.channel() else {
+    let Some(desk) = end.lend::<ChannelDesk>() else {
         return NO_SEAT;
     };
     let begun = desk.begin_receive();
@@ -53,7 +53,7 @@ pub extern "C" fn fak_channel_begin_try_send(end: &mut PaddedHandle, item: &Item
         (channel_in end.old.handle.desk) (channel_in end.new.handle.desk) }
     ensures spares { Spares channel_in end.old.handle.desk end.new.handle.desk }
 {
-    let Some(desk) = end.channel() else {
+    let Some(desk) = end.lend::<ChannelDesk>() else {
         return NO_SEAT;
     };
     let begun = desk.begin_try_send(*item);
@@ -69,7 +69,7 @@ pub extern "C" fn fak_channel_begin_try_receive(end: &mut PaddedHandle) -> i32
         (channel_in end.old.handle.desk) (channel_in end.new.handle.desk) }
     ensures spares { Spares channel_in end.old.handle.desk end.new.handle.desk }
 {
-    let Some(desk) = end.channel() else {
+    let Some(desk) = end.lend::<ChannelDesk>() else {
         return NO_SEAT;
     };
     let begun = desk.begin_try_receive();
@@ -85,7 +85,7 @@ pub extern "C" fn fak_channel_begin_close(end: &mut PaddedHandle) -> i32
         (channel_in end.old.handle.desk) (channel_in end.new.handle.desk) }
     ensures spares { Spares channel_in end.old.handle.desk end.new.handle.desk }
 {
-    let Some(desk) = end.channel() else {
+    let Some(desk) = end.lend::<ChannelDesk>() else {
         return NO_SEAT;
     };
     let begun = desk.begin_close();
@@ -102,7 +102,7 @@ pub extern "C" fn fak_channel_step(end: &mut PaddedHandle, item: &mut Item, numb
         (channel_in end.old.handle.desk) (channel_in end.new.handle.desk) }
     ensures spares { Spares channel_in end.old.handle.desk end.new.handle.desk }
 {
-    let Some(desk) = end.channel() else {
+    let Some(desk) = end.lend::<ChannelDesk>() else {
         return NO_SEAT;
     };
     let stepped = desk.steps();
@@ -118,7 +118,7 @@ pub extern "C" fn fak_channel_give_up(end: &mut PaddedHandle, item: &mut Item) -
         (channel_in end.old.handle.desk) (channel_in end.new.handle.desk) }
     ensures spares { Spares channel_in end.old.handle.desk end.new.handle.desk }
 {
-    let Some(desk) = end.channel() else {
+    let Some(desk) = end.lend::<ChannelDesk>() else {
         return NO_SEAT;
     };
     let given = desk.give_up();
@@ -134,7 +134,7 @@ pub extern "C" fn fak_channel_len(end: &mut PaddedHandle, items: &mut u64) -> i3
         (channel_in end.old.handle.desk) (channel_in end.new.handle.desk) }
     ensures spares { Spares channel_in end.old.handle.desk end.new.handle.desk }
 {
-    let Some(desk) = end.channel() else {
+    let Some(desk) = end.lend::<ChannelDesk>() else {
         return NO_SEAT;
     };
     *items = desk.len();
@@ -150,7 +150,7 @@ pub extern "C" fn fak_channel_is_closed(end: &mut PaddedHandle, is_closed: &mut 
         (channel_in end.old.handle.desk) (channel_in end.new.handle.desk) }
     ensures spares { Spares channel_in end.old.handle.desk end.new.handle.desk }
 {
-    let Some(desk) = end.channel() else {
+    let Some(desk) = end.lend::<ChannelDesk>() else {
         return NO_SEAT;
     };
     *is_closed = desk.is_closed();
@@ -172,7 +172,7 @@ pub extern "C" fn fak_channel_state(
         (channel_in end.old.handle.desk) (channel_in end.new.handle.desk) }
     ensures spares { Spares channel_in end.old.handle.desk end.new.handle.desk }
 {
-    let Some(desk) = end.channel() else {
+    let Some(desk) = end.lend::<ChannelDesk>() else {
         return NO_SEAT;
     };
     *number = desk.seat.number();

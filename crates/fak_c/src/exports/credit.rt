@@ -8,6 +8,7 @@ ghost use Rattle.fak_handles.specs.Kinds.{Spares, credit_in};
 
 use fak_handles::code::{NO_SEAT, OK};
 use fak_handles::credit::codes::of_credit;
+use fak_handles::credit::seat::CreditDesk;
 use fak_handles::padded_handle::PaddedHandle;
 
 /// Subtracts 1, and writes the value before.
@@ -19,7 +20,7 @@ pub extern "C" fn fak_c_credit_debit(seat: &mut PaddedHandle, found: &mut i64) -
         (credit_in seat.old.handle.desk) (credit_in seat.new.handle.desk) }
     ensures spares { Spares credit_in seat.old.handle.desk seat.new.handle.desk }
 {
-    let Some(desk) = seat.credit() else {
+    let Some(desk) = seat.lend::<CreditDesk>() else {
         return NO_SEAT;
     };
     let moved = desk.debit();
@@ -35,7 +36,7 @@ pub extern "C" fn fak_c_credit_credit(seat: &mut PaddedHandle, found: &mut i64) 
         (credit_in seat.old.handle.desk) (credit_in seat.new.handle.desk) }
     ensures spares { Spares credit_in seat.old.handle.desk seat.new.handle.desk }
 {
-    let Some(desk) = seat.credit() else {
+    let Some(desk) = seat.lend::<CreditDesk>() else {
         return NO_SEAT;
     };
     let moved = desk.credit();
@@ -55,7 +56,7 @@ pub extern "C" fn fak_c_credit_value(
         (LoadsCredit result value.new left.new) (credit_in seat.old.handle.desk) (credit_in seat.new.handle.desk) }
     ensures spares { Spares credit_in seat.old.handle.desk seat.new.handle.desk }
 {
-    let Some(desk) = seat.credit() else {
+    let Some(desk) = seat.lend::<CreditDesk>() else {
         return NO_SEAT;
     };
     *value = desk.value();

@@ -9,6 +9,7 @@ ghost use Rattle.fak_handles.specs.files.Calls.{Ends, Gets, LooksAtHold, SameTab
 
 use fak_handles::code::{NO_SEAT, OK};
 use fak_handles::files::codes::{of_done, of_get, of_held, of_hold};
+use fak_handles::files::seat::FileDesk;
 use fak_handles::padded_handle::PaddedHandle;
 use fak_model::FileField;
 
@@ -21,7 +22,7 @@ pub extern "C" fn fak_c_files_try_read(seat: &mut PaddedHandle, count: &mut i64)
         (files_in seat.old.handle.desk) (files_in seat.new.handle.desk) }
     ensures spares { Spares files_in seat.old.handle.desk seat.new.handle.desk }
 {
-    let Some(desk) = seat.files() else {
+    let Some(desk) = seat.lend::<FileDesk>() else {
         return NO_SEAT;
     };
     let tried = desk.try_read();
@@ -37,7 +38,7 @@ pub extern "C" fn fak_c_files_try_write(seat: &mut PaddedHandle, count: &mut i64
         (files_in seat.old.handle.desk) (files_in seat.new.handle.desk) }
     ensures spares { Spares files_in seat.old.handle.desk seat.new.handle.desk }
 {
-    let Some(desk) = seat.files() else {
+    let Some(desk) = seat.lend::<FileDesk>() else {
         return NO_SEAT;
     };
     let tried = desk.try_write();
@@ -59,7 +60,7 @@ pub extern "C" fn fak_c_files_get(
         (files_in seat.new.handle.desk) }
     ensures spares { Spares files_in seat.old.handle.desk seat.new.handle.desk }
 {
-    let Some(desk) = seat.files() else {
+    let Some(desk) = seat.lend::<FileDesk>() else {
         return NO_SEAT;
     };
     let got = desk.get(entry);
@@ -75,7 +76,7 @@ pub extern "C" fn fak_c_files_set_inode(seat: &mut PaddedHandle, entry: u64, to:
         (files_in seat.new.handle.desk) }
     ensures spares { Spares files_in seat.old.handle.desk seat.new.handle.desk }
 {
-    let Some(desk) = seat.files() else {
+    let Some(desk) = seat.lend::<FileDesk>() else {
         return NO_SEAT;
     };
     of_done(desk.set(entry, FileField::Inode, to))
@@ -90,7 +91,7 @@ pub extern "C" fn fak_c_files_set_uses(seat: &mut PaddedHandle, entry: u64, to: 
         (files_in seat.new.handle.desk) }
     ensures spares { Spares files_in seat.old.handle.desk seat.new.handle.desk }
 {
-    let Some(desk) = seat.files() else {
+    let Some(desk) = seat.lend::<FileDesk>() else {
         return NO_SEAT;
     };
     of_done(desk.set(entry, FileField::Uses, to))
@@ -105,7 +106,7 @@ pub extern "C" fn fak_c_files_end(seat: &mut PaddedHandle) -> i32
         (files_in seat.new.handle.desk) }
     ensures spares { Spares files_in seat.old.handle.desk seat.new.handle.desk }
 {
-    let Some(desk) = seat.files() else {
+    let Some(desk) = seat.lend::<FileDesk>() else {
         return NO_SEAT;
     };
     of_done(desk.end())
@@ -120,7 +121,7 @@ pub extern "C" fn fak_c_files_hold(seat: &mut PaddedHandle, hold: &mut u32) -> i
         (files_in seat.old.handle.desk) (files_in seat.new.handle.desk) }
     ensures spares { Spares files_in seat.old.handle.desk seat.new.handle.desk }
 {
-    let Some(desk) = seat.files() else {
+    let Some(desk) = seat.lend::<FileDesk>() else {
         return NO_SEAT;
     };
     *hold = of_held(desk.seat.hold());

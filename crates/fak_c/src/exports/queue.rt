@@ -11,6 +11,7 @@ use fak_handles::padded_handle::PaddedHandle;
 use fak_handles::queue::codes::{
     of_delete, of_delete_once, of_fill, of_insert, of_insert_once, of_shut, of_state, of_take,
 };
+use fak_handles::queue::seat::QueueDesk;
 
 /// Claims room for the item, and writes its ticket. `fak_c_try_fill` then moves the item in.
 ///
@@ -21,7 +22,7 @@ pub extern "C" fn fak_c_claim_insert(seat: &mut PaddedHandle, item: u64, ticket:
         (queue_in seat.old.handle.desk) (queue_in seat.new.handle.desk) }
     ensures spares { Spares queue_in seat.old.handle.desk seat.new.handle.desk }
 {
-    let Some(desk) = seat.queue() else {
+    let Some(desk) = seat.lend::<QueueDesk>() else {
         return NO_SEAT;
     };
     let claimed = desk.claim_insert(item);
@@ -37,7 +38,7 @@ pub extern "C" fn fak_c_try_fill(seat: &mut PaddedHandle) -> i32
         (queue_in seat.new.handle.desk) }
     ensures spares { Spares queue_in seat.old.handle.desk seat.new.handle.desk }
 {
-    let Some(desk) = seat.queue() else {
+    let Some(desk) = seat.lend::<QueueDesk>() else {
         return NO_SEAT;
     };
     let tried = desk.try_fill();
@@ -53,7 +54,7 @@ pub extern "C" fn fak_c_claim_delete(seat: &mut PaddedHandle, ticket: &mut u64) 
         (queue_in seat.old.handle.desk) (queue_in seat.new.handle.desk) }
     ensures spares { Spares queue_in seat.old.handle.desk seat.new.handle.desk }
 {
-    let Some(desk) = seat.queue() else {
+    let Some(desk) = seat.lend::<QueueDesk>() else {
         return NO_SEAT;
     };
     let claimed = desk.claim_delete();
@@ -69,7 +70,7 @@ pub extern "C" fn fak_c_try_take(seat: &mut PaddedHandle, item: &mut u64) -> i32
         (queue_in seat.old.handle.desk) (queue_in seat.new.handle.desk) }
     ensures spares { Spares queue_in seat.old.handle.desk seat.new.handle.desk }
 {
-    let Some(desk) = seat.queue() else {
+    let Some(desk) = seat.lend::<QueueDesk>() else {
         return NO_SEAT;
     };
     let tried = desk.try_take();
@@ -85,7 +86,7 @@ pub extern "C" fn fak_c_insert(seat: &mut PaddedHandle, item: u64, ticket: &mut 
         (queue_in seat.old.handle.desk) (queue_in seat.new.handle.desk) }
     ensures spares { Spares queue_in seat.old.handle.desk seat.new.handle.desk }
 {
-    let Some(desk) = seat.queue() else {
+    let Some(desk) = seat.lend::<QueueDesk>() else {
         return NO_SEAT;
     };
     let made = desk.insert(item);
@@ -102,7 +103,7 @@ pub extern "C" fn fak_c_delete(seat: &mut PaddedHandle, ticket: &mut u64, item: 
         (queue_in seat.new.handle.desk) }
     ensures spares { Spares queue_in seat.old.handle.desk seat.new.handle.desk }
 {
-    let Some(desk) = seat.queue() else {
+    let Some(desk) = seat.lend::<QueueDesk>() else {
         return NO_SEAT;
     };
     let made = desk.delete();
@@ -118,7 +119,7 @@ pub extern "C" fn fak_c_shut(seat: &mut PaddedHandle, was_open: &mut bool) -> i3
         (queue_in seat.old.handle.desk) (queue_in seat.new.handle.desk) }
     ensures spares { Spares queue_in seat.old.handle.desk seat.new.handle.desk }
 {
-    let Some(desk) = seat.queue() else {
+    let Some(desk) = seat.lend::<QueueDesk>() else {
         return NO_SEAT;
     };
     let shut = desk.shut();
@@ -134,7 +135,7 @@ pub extern "C" fn fak_c_pause(seat: &mut PaddedHandle) -> i32
         (queue_in seat.new.handle.desk) }
     ensures spares { Spares queue_in seat.old.handle.desk seat.new.handle.desk }
 {
-    let Some(desk) = seat.queue() else {
+    let Some(desk) = seat.lend::<QueueDesk>() else {
         return NO_SEAT;
     };
     desk.pause();
@@ -156,7 +157,7 @@ pub extern "C" fn fak_c_state(
         (queue_in seat.new.handle.desk) }
     ensures spares { Spares queue_in seat.old.handle.desk seat.new.handle.desk }
 {
-    let Some(desk) = seat.queue() else {
+    let Some(desk) = seat.lend::<QueueDesk>() else {
         return NO_SEAT;
     };
     of_state(desk.seat.state(), state, ticket);
@@ -173,7 +174,7 @@ pub extern "C" fn fak_c_count(seat: &mut PaddedHandle, items: &mut i64) -> i32
         (queue_in seat.old.handle.desk) (queue_in seat.new.handle.desk) }
     ensures spares { Spares queue_in seat.old.handle.desk seat.new.handle.desk }
 {
-    let Some(desk) = seat.queue() else {
+    let Some(desk) = seat.lend::<QueueDesk>() else {
         return NO_SEAT;
     };
     *items = desk.items_ready();
@@ -189,7 +190,7 @@ pub extern "C" fn fak_c_in_use(seat: &mut PaddedHandle, cells: &mut i64, is_shut
         (CountsCells result cells.new is_shut.new) (queue_in seat.old.handle.desk) (queue_in seat.new.handle.desk) }
     ensures spares { Spares queue_in seat.old.handle.desk seat.new.handle.desk }
 {
-    let Some(desk) = seat.queue() else {
+    let Some(desk) = seat.lend::<QueueDesk>() else {
         return NO_SEAT;
     };
     let in_use = desk.cells_in_use();
@@ -207,7 +208,7 @@ pub extern "C" fn fak_c_drained(seat: &mut PaddedHandle, is_drained: &mut bool) 
         (queue_in seat.old.handle.desk) (queue_in seat.new.handle.desk) }
     ensures spares { Spares queue_in seat.old.handle.desk seat.new.handle.desk }
 {
-    let Some(desk) = seat.queue() else {
+    let Some(desk) = seat.lend::<QueueDesk>() else {
         return NO_SEAT;
     };
     *is_drained = desk.is_drained();

@@ -8,6 +8,7 @@ ghost use Rattle.fak_handles.specs.Kinds.{Spares, room_in};
 use fak_handles::code::{NO_SEAT, OK};
 use fak_handles::padded_handle::PaddedHandle;
 use fak_handles::room::codes::{of_release, of_tir};
+use fak_handles::room::seat::RoomDesk;
 
 /// Claims the amount, 1 to 1,024, and writes the value that was found.
 ///
@@ -18,7 +19,7 @@ pub extern "C" fn fak_c_room_tir(seat: &mut PaddedHandle, amount: u64, found: &m
         (room_in seat.old.handle.desk) (room_in seat.new.handle.desk) }
     ensures spares { Spares room_in seat.old.handle.desk seat.new.handle.desk }
 {
-    let Some(desk) = seat.room() else {
+    let Some(desk) = seat.lend::<RoomDesk>() else {
         return NO_SEAT;
     };
     let claimed = desk.tir(amount);
@@ -34,7 +35,7 @@ pub extern "C" fn fak_c_room_release(seat: &mut PaddedHandle, amount: u64, found
         (room_in seat.old.handle.desk) (room_in seat.new.handle.desk) }
     ensures spares { Spares room_in seat.old.handle.desk seat.new.handle.desk }
 {
-    let Some(desk) = seat.room() else {
+    let Some(desk) = seat.lend::<RoomDesk>() else {
         return NO_SEAT;
     };
     let released = desk.release(amount);
@@ -50,7 +51,7 @@ pub extern "C" fn fak_c_room_state(seat: &mut PaddedHandle, held: &mut u64, left
         (LooksAtRoom result held.new left.new) (room_in seat.old.handle.desk) (room_in seat.new.handle.desk) }
     ensures spares { Spares room_in seat.old.handle.desk seat.new.handle.desk }
 {
-    let Some(desk) = seat.room() else {
+    let Some(desk) = seat.lend::<RoomDesk>() else {
         return NO_SEAT;
     };
     *held = desk.seat.held();

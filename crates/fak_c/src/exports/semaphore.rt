@@ -8,6 +8,7 @@ ghost use Rattle.fak_handles.specs.semaphore.Calls.{ClaimsDown, ClaimsUp, LooksA
 use fak_handles::code::{NO_SEAT, OK};
 use fak_handles::padded_handle::PaddedHandle;
 use fak_handles::semaphore::codes::{of_down, of_park, of_step, of_up, of_wake};
+use fak_handles::semaphore::seat::SemDesk;
 
 /// Begins a down of the item.
 ///
@@ -18,7 +19,7 @@ pub extern "C" fn fak_c_sem_claim_down(seat: &mut PaddedHandle, item: u64) -> i3
         (semaphore_in seat.new.handle.desk) }
     ensures spares { Spares semaphore_in seat.old.handle.desk seat.new.handle.desk }
 {
-    let Some(desk) = seat.semaphore() else {
+    let Some(desk) = seat.lend::<SemDesk>() else {
         return NO_SEAT;
     };
     let claimed = desk.claim_down(item);
@@ -34,7 +35,7 @@ pub extern "C" fn fak_c_sem_try_park(seat: &mut PaddedHandle) -> i32
         (semaphore_in seat.new.handle.desk) }
     ensures spares { Spares semaphore_in seat.old.handle.desk seat.new.handle.desk }
 {
-    let Some(desk) = seat.semaphore() else {
+    let Some(desk) = seat.lend::<SemDesk>() else {
         return NO_SEAT;
     };
     let tried = desk.try_park();
@@ -50,7 +51,7 @@ pub extern "C" fn fak_c_sem_claim_up(seat: &mut PaddedHandle) -> i32
         (semaphore_in seat.new.handle.desk) }
     ensures spares { Spares semaphore_in seat.old.handle.desk seat.new.handle.desk }
 {
-    let Some(desk) = seat.semaphore() else {
+    let Some(desk) = seat.lend::<SemDesk>() else {
         return NO_SEAT;
     };
     let claimed = desk.claim_up();
@@ -66,7 +67,7 @@ pub extern "C" fn fak_c_sem_try_wake(seat: &mut PaddedHandle, item: &mut u64) ->
         (semaphore_in seat.old.handle.desk) (semaphore_in seat.new.handle.desk) }
     ensures spares { Spares semaphore_in seat.old.handle.desk seat.new.handle.desk }
 {
-    let Some(desk) = seat.semaphore() else {
+    let Some(desk) = seat.lend::<SemDesk>() else {
         return NO_SEAT;
     };
     let tried = desk.try_wake();
@@ -82,7 +83,7 @@ pub extern "C" fn fak_c_sem_state(seat: &mut PaddedHandle, state: &mut u32, left
         (LooksAtSem result state.new left.new) (semaphore_in seat.old.handle.desk) (semaphore_in seat.new.handle.desk) }
     ensures spares { Spares semaphore_in seat.old.handle.desk seat.new.handle.desk }
 {
-    let Some(desk) = seat.semaphore() else {
+    let Some(desk) = seat.lend::<SemDesk>() else {
         return NO_SEAT;
     };
     *state = of_step(desk.seat.state());

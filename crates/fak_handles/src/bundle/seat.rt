@@ -6,6 +6,8 @@ ghost use Rattle.std.specs.VecDeque.{deque_capacity};
 ghost use Rattle.fak_queue.specs.declared.bundle.BundleState.TheVariants.{Idle, Inserting};
 ghost use Rattle.fak_handles.specs.bundle.Open.{open_in};
 
+use crate::desk::Desk;
+use crate::kind::Kind;
 use fak_queue::{Bundle, Queue};
 use std::alloc::Global;
 use std::collections::VecDeque;
@@ -53,6 +55,21 @@ impl BundleDesk {
             held,
             next: 0,
             after: [0; 8],
+        }
+    }
+}
+
+impl Kind for BundleDesk {
+    ghost use Rattle.fak_handles.specs.Kinds.{bundle_in, with_bundle};
+
+    ghost seat_in = { bundle_in };
+
+    ghost with_seat = { with_bundle };
+
+    fn lend(desk: &mut Desk) -> Option<&mut BundleDesk> {
+        match desk {
+            Desk::Bundle(desk) => Some(desk.as_mut()),
+            _ => None,
         }
     }
 }

@@ -5,6 +5,8 @@ ghost use Rattle.std.specs.Arc.{arc_value};
 ghost use Rattle.fak_channel.specs.ChannelSteps.{IsStepSeatOf};
 ghost use Rattle.fak_channel.proofs.OneProof.{stands_prop};
 
+use crate::desk::Desk;
+use crate::kind::Kind;
 use fak_channel::{Channel, ChannelStepSeat};
 use std::alloc::Global;
 use std::sync::Arc;
@@ -41,6 +43,21 @@ impl ChannelDesk {
             channel,
             seat,
             after: [0; 8],
+        }
+    }
+}
+
+impl Kind for ChannelDesk {
+    ghost use Rattle.fak_handles.specs.Kinds.{channel_in, with_channel};
+
+    ghost seat_in = { channel_in };
+
+    ghost with_seat = { with_channel };
+
+    fn lend(desk: &mut Desk) -> Option<&mut ChannelDesk> {
+        match desk {
+            Desk::Channel(desk) => Some(desk.as_mut()),
+            _ => None,
         }
     }
 }

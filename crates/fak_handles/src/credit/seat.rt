@@ -3,6 +3,8 @@
 ghost use Rattle.std.specs.Prelude.{◌≡◌};
 ghost use Rattle.std.specs.Arc.{arc_value};
 
+use crate::desk::Desk;
+use crate::kind::Kind;
 use fak_count::{Credit, CreditSeat};
 use std::alloc::Global;
 use std::sync::Arc;
@@ -29,6 +31,21 @@ impl CreditDesk {
             credit,
             seat,
             after: [0; 8],
+        }
+    }
+}
+
+impl Kind for CreditDesk {
+    ghost use Rattle.fak_handles.specs.Kinds.{credit_in, with_credit};
+
+    ghost seat_in = { credit_in };
+
+    ghost with_seat = { with_credit };
+
+    fn lend(desk: &mut Desk) -> Option<&mut CreditDesk> {
+        match desk {
+            Desk::Credit(desk) => Some(desk),
+            _ => None,
         }
     }
 }

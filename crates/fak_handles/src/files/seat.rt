@@ -3,6 +3,8 @@
 ghost use Rattle.std.specs.Prelude.{◌≡◌};
 ghost use Rattle.std.specs.Arc.{arc_value};
 
+use crate::desk::Desk;
+use crate::kind::Kind;
 use fak_files::{FileSeat, FileTable};
 use std::alloc::Global;
 use std::sync::Arc;
@@ -33,6 +35,21 @@ impl FileDesk {
             entries,
             seat,
             after: [0; 8],
+        }
+    }
+}
+
+impl Kind for FileDesk {
+    ghost use Rattle.fak_handles.specs.Kinds.{files_in, with_files};
+
+    ghost seat_in = { files_in };
+
+    ghost with_seat = { with_files };
+
+    fn lend(desk: &mut Desk) -> Option<&mut FileDesk> {
+        match desk {
+            Desk::Files(desk) => Some(desk),
+            _ => None,
         }
     }
 }

@@ -3,6 +3,8 @@
 ghost use Rattle.std.specs.Prelude.{◌≡◌};
 ghost use Rattle.std.specs.Arc.{arc_value};
 
+use crate::desk::Desk;
+use crate::kind::Kind;
 use fak_queue::{Queue, Seat};
 use std::alloc::Global;
 use std::sync::Arc;
@@ -29,6 +31,21 @@ impl QueueDesk {
             queue,
             seat,
             after: [0; 8],
+        }
+    }
+}
+
+impl Kind for QueueDesk {
+    ghost use Rattle.fak_handles.specs.Kinds.{queue_in, with_queue};
+
+    ghost seat_in = { queue_in };
+
+    ghost with_seat = { with_queue };
+
+    fn lend(desk: &mut Desk) -> Option<&mut QueueDesk> {
+        match desk {
+            Desk::Queue(desk) => Some(desk),
+            _ => None,
         }
     }
 }

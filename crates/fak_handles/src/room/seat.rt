@@ -3,6 +3,8 @@
 ghost use Rattle.std.specs.Prelude.{◌≡◌};
 ghost use Rattle.std.specs.Arc.{arc_value};
 
+use crate::desk::Desk;
+use crate::kind::Kind;
 use fak_count::{Room, RoomSeat};
 use std::alloc::Global;
 use std::sync::Arc;
@@ -29,6 +31,21 @@ impl RoomDesk {
             room,
             seat,
             after: [0; 8],
+        }
+    }
+}
+
+impl Kind for RoomDesk {
+    ghost use Rattle.fak_handles.specs.Kinds.{room_in, with_room};
+
+    ghost seat_in = { room_in };
+
+    ghost with_seat = { with_room };
+
+    fn lend(desk: &mut Desk) -> Option<&mut RoomDesk> {
+        match desk {
+            Desk::Room(desk) => Some(desk),
+            _ => None,
         }
     }
 }

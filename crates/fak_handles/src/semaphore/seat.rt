@@ -3,6 +3,8 @@
 ghost use Rattle.std.specs.Prelude.{◌≡◌};
 ghost use Rattle.std.specs.Arc.{arc_value};
 
+use crate::desk::Desk;
+use crate::kind::Kind;
 use fak_sem::{Semaphore, StepSeat};
 use std::alloc::Global;
 use std::sync::Arc;
@@ -29,6 +31,21 @@ impl SemDesk {
             semaphore,
             seat,
             after: [0; 8],
+        }
+    }
+}
+
+impl Kind for SemDesk {
+    ghost use Rattle.fak_handles.specs.Kinds.{semaphore_in, with_semaphore};
+
+    ghost seat_in = { semaphore_in };
+
+    ghost with_seat = { with_semaphore };
+
+    fn lend(desk: &mut Desk) -> Option<&mut SemDesk> {
+        match desk {
+            Desk::Semaphore(desk) => Some(desk),
+            _ => None,
         }
     }
 }
