@@ -60,6 +60,7 @@ impl BundleDesk {
 }
 
 impl Kind for BundleDesk {
+    ghost use Rattle.std.specs.Prelude.{refl};
     ghost use Rattle.fak_handles.specs.Kinds.{bundle_in, with_bundle};
 
     ghost seat_in = { bundle_in };
@@ -72,4 +73,6 @@ impl Kind for BundleDesk {
             _ => None,
         }
     }
+
+    ghost no_desk = { refl };
 }

@@ -48,6 +48,7 @@ impl ChannelDesk {
 }
 
 impl Kind for ChannelDesk {
+    ghost use Rattle.std.specs.Prelude.{refl};
     ghost use Rattle.fak_handles.specs.Kinds.{channel_in, with_channel};
 
     ghost seat_in = { channel_in };
@@ -60,4 +61,6 @@ impl Kind for ChannelDesk {
             _ => None,
         }
     }
+
+    ghost no_desk = { refl };
 }

@@ -36,6 +36,7 @@ impl CreditDesk {
 }
 
 impl Kind for CreditDesk {
+    ghost use Rattle.std.specs.Prelude.{refl};
     ghost use Rattle.fak_handles.specs.Kinds.{credit_in, with_credit};
 
     ghost seat_in = { credit_in };
@@ -48,4 +49,6 @@ impl Kind for CreditDesk {
             _ => None,
         }
     }
+
+    ghost no_desk = { refl };
 }

@@ -40,6 +40,7 @@ impl FileDesk {
 }
 
 impl Kind for FileDesk {
+    ghost use Rattle.std.specs.Prelude.{refl};
     ghost use Rattle.fak_handles.specs.Kinds.{files_in, with_files};
 
     ghost seat_in = { files_in };
@@ -52,4 +53,6 @@ impl Kind for FileDesk {
             _ => None,
         }
     }
+
+    ghost no_desk = { refl };
 }

@@ -36,6 +36,7 @@ impl QueueDesk {
 }
 
 impl Kind for QueueDesk {
+    ghost use Rattle.std.specs.Prelude.{refl};
     ghost use Rattle.fak_handles.specs.Kinds.{queue_in, with_queue};
 
     ghost seat_in = { queue_in };
@@ -48,4 +49,6 @@ impl Kind for QueueDesk {
             _ => None,
         }
     }
+
+    ghost no_desk = { refl };
 }

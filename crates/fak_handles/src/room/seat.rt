@@ -36,6 +36,7 @@ impl RoomDesk {
 }
 
 impl Kind for RoomDesk {
+    ghost use Rattle.std.specs.Prelude.{refl};
     ghost use Rattle.fak_handles.specs.Kinds.{room_in, with_room};
 
     ghost seat_in = { room_in };
@@ -48,4 +49,6 @@ impl Kind for RoomDesk {
             _ => None,
         }
     }
+
+    ghost no_desk = { refl };
 }

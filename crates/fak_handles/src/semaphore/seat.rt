@@ -36,6 +36,7 @@ impl SemDesk {
 }
 
 impl Kind for SemDesk {
+    ghost use Rattle.std.specs.Prelude.{refl};
     ghost use Rattle.fak_handles.specs.Kinds.{semaphore_in, with_semaphore};
 
     ghost seat_in = { semaphore_in };
@@ -48,4 +49,6 @@ impl Kind for SemDesk {
             _ => None,
         }
     }
+
+    ghost no_desk = { refl };
 }
