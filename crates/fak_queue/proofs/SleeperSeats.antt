@@ -172,24 +172,25 @@ module _ {T : Type 0} (key : QueueLimits) {size seats name left : ℕ} {p : Phas
 
 -- ---- a call on the queue
 
-module _ {T : Type 0} {size : ℕ} {parts now : PartsInfo T} {old : SleeperInfo T} (old_is : sleeper_info parts ≡ old) (knows : KnowsNotes parts) (noted : now.noted ≡ parts.noted) where
-  pub notes_kept : (sleeper_info now).notes ≡ old.notes
-  notes_kept = ap notes_in noted ∙ ap (λ (s : SleeperInfo T). s.notes) old_is
-
+module _ {T : Type 0} {parts : PartsInfo T} {old : SleeperInfo T} (old_is : sleeper_info parts ≡ old) (knows : KnowsNotes parts) where
   within_old : AreWithin old.notes (marks_by old.seat)
   within_old = subst (λ (s : SleeperInfo T). AreWithin s.notes (marks_by s.seat)) old_is knows.within
 
-  pub keeps_notes_by : KeepsNotes size old (sleeper_info now)
-  keeps_notes_by = record {
-    notes = notes_kept;
-    account = λ kinds makes. ap (λ (l : List Note). account_by now.seat.object.seats l now.seat) notes_kept
-        ∙ (ap (λ (o : ObjectId). account_by o.seats old.notes now.seat) (ap (λ (s : SeatInfo (Mark T)). s.object) makes.same_seat)
-        ∙ account_made old.seat.object.seats size old.notes kinds old.seat now.seat within_old makes);
-  }
+  module _ (now : PartsInfo T) (noted : now.noted ≡ parts.noted) where
+    notes_kept : (sleeper_info now).notes ≡ old.notes
+    notes_kept = ap notes_in noted ∙ ap (λ (s : SleeperInfo T). s.notes) old_is
 
-  -- what the type keeps, if the seat has at least as many marks
-  pub knows_after : marks_by old.seat ≤ marks_by now.seat → KnowsNotes now
-  knows_after more = record {
-    known = noted ∙ (knows.known ∙ ap (λ z. Some (notes_in z)) (sym noted));
-    within = subst (λ (l : List Note). AreWithin l (marks_by now.seat)) (sym notes_kept) (within_upto old.notes (marks_by old.seat) (marks_by now.seat) more within_old);
-  }
+    pub keeps_notes_by : (size : ℕ) → KeepsNotes size old (sleeper_info now)
+    keeps_notes_by size = record {
+      notes = notes_kept;
+      account = λ kinds makes. ap (λ (l : List Note). account_by now.seat.object.seats l now.seat) notes_kept
+          ∙ (ap (λ (o : ObjectId). account_by o.seats old.notes now.seat) (ap (λ (s : SeatInfo (Mark T)). s.object) makes.same_seat)
+          ∙ account_made old.seat.object.seats size old.notes kinds old.seat now.seat within_old makes);
+    }
+
+    -- what the type keeps, if the seat has at least as many marks
+    pub knows_after : marks_by old.seat ≤ marks_by now.seat → KnowsNotes now
+    knows_after more = record {
+      known = noted ∙ (knows.known ∙ ap (λ z. Some (notes_in z)) (sym noted));
+      within = subst (λ (l : List Note). AreWithin l (marks_by now.seat)) (sym notes_kept) (within_upto old.notes (marks_by old.seat) (marks_by now.seat) more within_old);
+    }

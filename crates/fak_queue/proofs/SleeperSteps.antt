@@ -34,10 +34,10 @@ module _ {T : Type 0} (key : QueueLimits) {size seats name left : ℕ} {p : Phas
 
   -- the same with what the load told of the history
   quiet_told : (P : List (Mark T) → Type 0) → NotesNothing table.slots key.seats (λ past. P (reverse past)) m after → Kept (AddsNoNote queue.size old New × P (reverse after.0.seen))
-  quiet_told P l = let a = quiet l in (a.0, a.1, a.2, told_quiet key f q parts_is old_is knows queue_is fits idle stays after l)
+  quiet_told P l = let a = quiet l in (a.0, a.1, (a.2, told_quiet key f q parts_is old_is knows queue_is fits idle stays after l))
 
   noted_told : (k : NoteKind) (P : List (Mark T) → Type 0) → Notes table.slots key.seats name k (λ past. P (reverse past)) m after → Kept (AddsNote queue.size k old New × P (reverse after.0.seen))
-  noted_told k P l = let a = noted k l in (a.0, a.1, a.2, told_noted key f q parts_is old_is knows queue_is fits idle stays after k l)
+  noted_told k P l = let a = noted k l in (a.0, a.1, (a.2, told_noted key f q parts_is old_is knows queue_is fits idle stays after k l))
 
   size_is : table.slots ≡ queue.size
   size_is = ap (λ (i : QueueInfo). i.size) queue_is

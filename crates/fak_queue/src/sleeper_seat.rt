@@ -62,7 +62,7 @@ impl<T> SleeperSeat<T> {
 
     /// The same seat without its notes. It can no longer sleep.
     pub fn into_seat(self) -> Seat<T>
-        ensures { result ≡ self.entry.seat }
+        ensures { result ≡ self.seat }
     {
         let SleeperSeat { parts } = self;
         Seat { parts }

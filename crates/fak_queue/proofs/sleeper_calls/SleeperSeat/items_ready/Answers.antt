@@ -1,9 +1,0 @@
-use Rattle.fak_queue.proofs.SleeperCalls.{more_observed}
-use Rattle.fak_queue.proofs.SleeperSeats.{keeps_notes_by, knows_after}
-use Rattle.fak_queue.proofs.sleeper_calls.SleeperSeat.items_ready.Goals as goal
-
-pub invariant_of-self : goal.invariant_of-self
-invariant_of-self g c = knows_after c.self.view_is c.self.invariant c.items_ready_by.ensures.noted (more_observed c.items_ready_by.ensures.makes)
-
-pub returns-clause-notes : goal.returns-clause-notes
-returns-clause-notes g c = keeps_notes_by c.self.view_is c.self.invariant c.items_ready_by.ensures.noted
