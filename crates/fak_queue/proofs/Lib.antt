@@ -76,3 +76,5 @@ pub mod BundleJoins
 pub mod SleeperSeats
 pub mod SleeperCalls
 pub mod SleeperSteps
+pub mod CallAccounts
+pub mod SeatsSeen

@@ -188,9 +188,11 @@ module _ {T : Type 0} {parts : PartsInfo T} {old : SleeperInfo T} (old_is : slee
           ∙ account_made old.seat.object.seats size old.notes kinds old.seat now.seat within_old makes);
     }
 
-    -- what the type keeps, if the seat has at least as many marks
-    pub knows_after : marks_by old.seat ≤ marks_by now.seat → KnowsNotes now
-    knows_after more = record {
-      known = noted ∙ (knows.known ∙ ap (λ z. Some (notes_in z)) (sym noted));
-      within = subst (λ (l : List Note). AreWithin l (marks_by now.seat)) (sym notes_kept) (within_upto old.notes (marks_by old.seat) (marks_by now.seat) more within_old);
+-- what the type keeps, if the notes are the same and the seat has at least as many marks
+pub knows_after : {T : Type 0} {parts : PartsInfo T} → KnowsNotes parts → (now : PartsInfo T) → now.noted ≡ parts.noted → marks_by parts.seat ≤ marks_by now.seat → KnowsNotes now
+knows_after {T} {parts} knows now noted more =
+    let same : notes_in now.noted ≡ notes_in parts.noted = ap notes_in noted in
+    record {
+      known = noted ∙ (knows.known ∙ ap (λ (l : List Note). Some l) (sym same));
+      within = subst (λ (l : List Note). AreWithin l (marks_by now.seat)) (sym same) (within_upto (notes_in parts.noted) (marks_by parts.seat) (marks_by now.seat) more knows.within);
     }

@@ -18,6 +18,8 @@ pub mod Rests
 pub mod Sums
 pub mod SeatParts
 pub mod SleeperSeats
+pub mod SeatsSeen
+pub mod CallAccounts
 pub mod Bursts
 pub mod Bundles
 pub mod BurstTokens
