@@ -69,29 +69,29 @@ pays_or_not n w g = elim (true_or_false (has_passed n (λ v. (v == w) || g.passe
 
 module _ {T : Type 0} (size : ℕ) (old new : SleeperInfo T) (keeps : KeepsNotes size old new) where
   pub by_claim_in : (k : ℕ) (x : T) → ClaimsIn size k x old.seat new.seat → account_of_seat new ≡ tries_in (account_of_seat old)
-  by_claim_in k x c = keeps.account _ c.makes
+  by_claim_in k x c = keeps.account (made.ClaimIn ∷ made.Put x ∷ []) c.makes
 
   pub by_full : (u : ℤ) → RefusesFull size u old.seat new.seat → (account_of_seat new ≡ tries_in (account_of_seat old)) ⊎ (account_of_seat new ≡ owes_check (owes_sender (tries_in (account_of_seat old))))
-  by_full u r = ⊎_elim (λ a. inl (keeps.account _ a)) (λ b. inr (keeps.account _ b)) r.makes
+  by_full u r = ⊎_elim (λ a. inl (keeps.account (made.NoRoom ∷ []) a)) (λ b. inr (keeps.account (made.OverIn ∷ made.BackIn ∷ []) b)) r.makes
 
   pub by_closed : RefusesClosed size old.seat new.seat → (account_of_seat new ≡ owes_sender (tries_in (account_of_seat old))) ⊎ (account_of_seat new ≡ owes_check (owes_sender (tries_in (account_of_seat old))))
-  by_closed r = ⊎_elim (λ a. inl (keeps.account _ a)) (λ b. inr (keeps.account _ b)) r
+  by_closed r = ⊎_elim (λ a. inl (keeps.account (made.Closed ∷ []) a)) (λ b. inr (keeps.account (made.LateIn ∷ made.BackIn ∷ []) b)) r
 
   pub by_fill : (k : ℕ) → Fills size k old.seat new.seat → account_of_seat new ≡ owes_receiver (account_of_seat old)
-  by_fill k f = keeps.account _ f
+  by_fill k f = keeps.account (made.Fill k ∷ made.EndIn ∷ []) f
 
   pub by_claim_out : (k : ℕ) → ClaimsOut size k old.seat new.seat → account_of_seat new ≡ tries_out (account_of_seat old)
-  by_claim_out k c = keeps.account _ c.makes
+  by_claim_out k c = keeps.account (made.ClaimOut ∷ made.Got c.item ∷ []) c.makes
 
   pub by_empty : (l : ℤ) → RefusesEmpty size l old.seat new.seat → (account_of_seat new ≡ owes_check (tries_out (account_of_seat old))) ⊎ (account_of_seat new ≡ owes_receiver (tries_out (account_of_seat old)))
-  by_empty l r = ⊎_elim (λ a. inl (keeps.account _ a)) (λ b. inr (keeps.account _ b)) r.makes
+  by_empty l r = ⊎_elim (λ a. inl (keeps.account (made.NoItem ∷ []) a)) (λ b. inr (keeps.account (made.OverOut ∷ made.BackOut ∷ []) b)) r.makes
 
   pub by_take : (k : ℕ) (x : T) → Takes size k x old.seat new.seat → account_of_seat new ≡ owes_check (owes_sender (account_of_seat old))
-  by_take k x t = keeps.account _ t.makes
+  by_take k x t = keeps.account (made.Take k ∷ made.EndOut ∷ []) t.makes
 
   pub by_shut : (b : Bool) → ShutsAs size b old.seat new.seat → account_of_seat new ≡ owes_check (owes_sender (account_of_seat old))
-  by_shut true s = keeps.account _ s.0
-  by_shut false s = keeps.account _ s.0
+  by_shut true s = keeps.account (made.Close ∷ []) s.0
+  by_shut false s = keeps.account (made.Close ∷ []) s.0
 
   pub by_look : Makes size [] old.seat new.seat → account_of_seat new ≡ account_of_seat old
   by_look makes = keeps.account [] makes

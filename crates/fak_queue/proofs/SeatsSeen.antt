@@ -17,7 +17,7 @@ use Rattle.fak_queue.proofs.Stepping.{QueueTable}
 use Rattle.fak_queue.proofs.Common.{Alike, QueueLimits, QueueHolder, IsShownQueue, IsQueueSeat, TableId, Phase, Idle, contents, object_id, queue_seat, state_of, token_names, token_phase, some, get_elem?, ◌≡◌, ◌⊎◌, ℕ, ◌<◌, List, [], ◌∷◌, length, refl, sym, ap, ◌∙◌, subst, inl, inr, false, true, reverse, reverse-reverse, Some}
 
 module _ {T : Type 0} (key : QueueLimits) (s : QueueTable T) where
-  between : (seat : SleeperInfo T) → IsSeenIn key s seat → state_of seat.seat ≡ Idle → IsBetweenCalls s seat.seat.name
+  abbrev between : (seat : SleeperInfo T) → IsSeenIn key s seat → state_of seat.seat ≡ Idle → IsBetweenCalls s seat.seat.name
   between seat i idle = record {
     id = i.id;
     view = i.view;
