@@ -78,4 +78,4 @@ pub mod SleeperCalls
 pub mod SleeperSteps
 pub mod CallAccounts
 pub mod SeatsSeen
-pub mod Undealt
+pub mod Dealing

@@ -1,7 +1,7 @@
 use Rattle.fak_queue.specs.SleeperSeats.{UndealtInfo}
 use Rattle.fak_queue.proofs.Common.{Alike, ObjectId, QueueInfo, queue_object, ap, sym, ◌∙◌, arith, deals}
 use Rattle.fak_core.specs.declared.queue.phase.Phase.TheVariants.{Idle}
-use Rattle.fak_queue.proofs.Undealt.{next_keeps, others_keep}
+use Rattle.fak_queue.proofs.Dealing.{next_keeps, others_keep}
 use Rattle.fak_queue.proofs.undealt.UndealtSeats.next.Goals as goal
 
 pub split_seat-requires : goal.split_seat-requires
