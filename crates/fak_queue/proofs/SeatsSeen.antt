@@ -9,12 +9,14 @@ use Rattle.fak_queue.specs.Accounts.{account_of, kinds_by}
 use Rattle.fak_queue.specs.SeatParts.{queue_parts}
 use Rattle.fak_queue.specs.SeatsSeen.{AllRest, IsSeenIn, SeatRests, SeatSleeps}
 use Rattle.fak_queue.specs.SleeperRest.{AllSeatsRest, IsAtRest, IsAsleepAs, IsBetweenCalls, OwesNothing, SleepsAs, account_in}
-use Rattle.fak_queue.specs.SleeperSeats.{KnowsNotes, SleeperInfo, account_of_seat, sleeper_info}
+use Rattle.fak_queue.specs.SleeperSeats.{AreUndealt, KnowsNotes, SleeperInfo, account_of_seat, fresh_sleeper, sleeper_info}
+use Rattle.fak_model.specs.Views.{names_from}
+use Rattle.fak_model.proofs.Deciding.{same_or_not}
 use Rattle.fak_queue.specs.Sleepers.{duty_as, is_set}
 use Rattle.fak_queue.proofs.SeatCalls.{idle_phase, state_shown}
 use Rattle.fak_queue.proofs.SleeperLaws.{receiver_waits_running, sender_waits_running}
 use Rattle.fak_queue.proofs.Stepping.{QueueTable}
-use Rattle.fak_queue.proofs.Common.{Alike, QueueLimits, QueueHolder, IsShownQueue, IsQueueSeat, TableId, Phase, Idle, contents, object_id, queue_seat, state_of, token_names, token_phase, some, get_elem?, ◌≡◌, ◌⊎◌, ℕ, ◌<◌, List, [], ◌∷◌, length, refl, sym, ap, ◌∙◌, subst, inl, inr, false, true, reverse, reverse-reverse, Some}
+use Rattle.fak_queue.proofs.Common.{Alike, QueueLimits, QueueHolder, IsShownQueue, IsQueueSeat, TableId, Phase, Idle, contents, object_id, queue_seat, state_of, token_names, token_phase, some, get_elem?, ◌≡◌, ◌⊎◌, ℕ, zero, suc, ◌+◌, ◌-◌, ◌<◌, ◌≤◌, arith, List, [], ◌∷◌, length, refl, sym, ap, ◌∙◌, subst, inl, inr, false, true, reverse, reverse-reverse, Some}
 
 module _ {T : Type 0} (key : QueueLimits) (s : QueueTable T) where
   abbrev between : (seat : SleeperInfo T) → IsSeenIn key s seat → state_of seat.seat ≡ Idle → IsBetweenCalls s seat.seat.name
@@ -22,7 +24,7 @@ module _ {T : Type 0} (key : QueueLimits) (s : QueueTable T) where
     id = i.id;
     view = i.view;
     at = i.at;
-    named = subst (In seat.seat.name) (sym i.names) (inl refl);
+    named = i.named;
     idle = i.idle idle;
     notes = seat.notes;
     known = i.noted;
@@ -64,15 +66,34 @@ module _ {T : Type 0} (key : QueueLimits) (s : QueueTable T) where
 
 -- ---- a seat's token
 
+-- a number is among those from a on
+among_names : (n a k : ℕ) → a ≤ n → n < a + k → In n (names_from a k)
+among_names n a zero low high = absurd (omega (arith, low, high))
+among_names n a (suc k) low high = elim (same_or_not n a) [ inl same ↦ inl same | inr apart ↦ inr (among_names n (suc a) k (omega (arith, low, apart)) (omega (arith, high))) ]
+
 pub seen_here : {T : Type 0} (key : QueueLimits) (s : QueueTable T) (table : TableId) (name left : ℕ) (p : Phase T) (me : QueueHolder T) (id : ℕ) → IsQueueSeat table.slots key.seats name p left me
     → KnowsNotes (queue_parts (object_id table key.seats) name left me) → get_elem? s.views id ≡ some me.0 → IsSeenIn key s (sleeper_info (queue_parts (object_id table key.seats) name left me))
 seen_here key s table name left p me id f knows at = record {
   id = id;
   view = me.0;
   at = at;
-  names = token_names f.token;
+  named = subst (In name) (sym (token_names f.token)) (inl refl);
   seen = refl;
   noted = knows.known;
   idle = λ e. token_phase f.token ∙ ap (λ z. Some (Alike z)) (idle_phase f.rests (sym (state_shown (object_id table key.seats) name left me p f.rests) ∙ e));
+  seats = refl;
+}
+
+-- a seat that is still to be dealt
+pub undealt_here : {T : Type 0} (key : QueueLimits) (s : QueueTable T) (table : TableId) (stint next n : ℕ) (me : QueueHolder T) (id : ℕ) → AreUndealt key.seats stint next me → next ≤ n → n < key.seats → get_elem? s.views id ≡ some me.0
+    → IsSeenIn key s (fresh_sleeper (object_id table key.seats) stint n)
+undealt_here key s table stint next n me id u low high at = record {
+  id = id;
+  view = me.0;
+  at = at;
+  named = subst (In n) (sym (ap (λ z. z.0.names) u.me_is)) (among_names n next (key.seats - next) low (omega (arith, low, high)));
+  seen = ap (λ z. reverse z.0.seen) (sym u.me_is);
+  noted = ap (λ z. z.0.noted) u.me_is;
+  idle = λ e. ap (λ z. z.0.phase) u.me_is;
   seats = refl;
 }

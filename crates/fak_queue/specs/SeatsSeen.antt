@@ -1,8 +1,9 @@
 -- When the seats of a queue are at rest as ends of a channel, in the terms of what their callers see.
-use Rattle.std.specs.Prelude.{◌≡◌, ◌⊎◌, ℕ, ◌<◌, true, List, [], ◌∷◌, reverse, Option, Some}
+use Rattle.std.specs.Prelude.{◌≡◌, ◌⊎◌, ℕ, ◌<◌, true, List, reverse, Option, Some}
 use mathlib.Core.Option.{some}
 use lib.ListN.{get_elem?}
 use Rattle.atomic_table.specs.Table.{State}
+use Rattle.fak_model.specs.Seats.{In}
 use Rattle.fak_core.specs.declared.queue.phase.Phase.TheVariants as phase
 use Rattle.fak_channel_core.specs.SleeperSides.{Awake, Asleep}
 use Rattle.fak_queue.specs.declared.limits.QueueLimits.{QueueLimits}
@@ -15,12 +16,12 @@ use Rattle.fak_queue.specs.SleeperRest.{OwesNothing}
 use Rattle.fak_queue.specs.SleeperSeats.{SleeperInfo, account_of_seat}
 use Rattle.fak_queue.specs.Sleepers.{duty_as, is_set}
 
--- a view of the table is that of this seat: it knows just what callers see of the seat
+-- a view of the table has this seat, and knows just what callers see of it
 pub record IsSeenIn {T : Type 0} (key : QueueLimits) (s : State (Option T) (QueueView T)) (seat : SleeperInfo T) : Type 0 where
   pub id : ℕ
   pub view : QueueView T
   pub at : get_elem? s.views id ≡ some view
-  pub names : view.names ≡ seat.seat.name ∷ []
+  pub named : In seat.seat.name view.names
   pub seen : seat.seat.seen ≡ reverse view.seen
   pub noted : view.noted ≡ Some seat.notes
   pub idle : state_of seat.seat ≡ Idle → view.phase ≡ Some (Alike phase.Idle)

@@ -10,6 +10,8 @@
 //! - `Bundle::of(alloc, &queue, seats)` is several seats that call together: `insert_burst` and `delete_burst` claim for several
 //!   items at once, and have forms that wait, and forms that never do.
 //! - `shut` refuses later insertions; deletions go on. `cells_in_use`, `items_ready` and `is_drained` observe the counts.
+//! - `Queue::open_sleepers` opens a queue whose seats can sleep: a `SleeperSeat` also has the steps of a channel's end on the bits of
+//!   sleepers in the queue's table.
 //! - `Tally::of(seat)` and `Queue::join` bring the seats back together; with all of them `Queue::close` returns a `Rest`, what is left.
 //! - Callers owe that a seat belongs to this queue and is idle: `IsIdleSeat queue.now.object seat`.
 //! - To cite: `Inserts`, `Deletes` and their like (`specs/Queues.antt`, `specs/Retries.antt`), and the laws of `fak_model::laws`.

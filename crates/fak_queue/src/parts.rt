@@ -63,6 +63,14 @@ impl<T> SeatParts<T> {
         self.name
     }
 
+    /// The number of seats of its queue.
+    pub(crate) fn seats(&self) -> u64
+        ensures value { result ≡ self.now.seat.object.seats }
+        ensures few { result ≤ large_seats }
+    {
+        self.seats
+    }
+
     /// `Seat::set_pauses_in_calls`.
     pub(crate) fn set_pauses_in_calls(&mut self, pauses: bool)
         ensures { self.new ≡ self.old }

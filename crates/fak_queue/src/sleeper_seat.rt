@@ -44,13 +44,21 @@ impl<T> SleeperSeat<T> {
         self.parts.left()
     }
 
-    /// The number of the seat, from 0. A queue has at most `LARGE_SEATS` seats.
+    /// The number of the seat among those of its queue, from 0.
     pub fn number(&self) -> u64
         ensures value { result ≡ self.now.seat.name }
         ensures below { result < self.now.seat.object.seats }
         ensures few { self.now.seat.object.seats ≤ large_seats }
     {
         self.parts.name()
+    }
+
+    /// The number of seats of its queue, at most `LARGE_SEATS`. 64 of them share a word of bits.
+    pub fn seats(&self) -> u64
+        ensures value { result ≡ self.now.seat.object.seats }
+        ensures few { result ≤ large_seats }
+    {
+        self.parts.seats()
     }
 
     /// Sets whether `insert` and `delete` begin with a pause, as `Seat::set_pauses_in_calls` does.

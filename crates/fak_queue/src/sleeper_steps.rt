@@ -28,14 +28,9 @@ impl<T: Drop> SleeperSeat<T> {
         ensures { AddsNote queue.now.size (as_role role Registers) self.old self.new }
     {
         let parts = &mut self.parts;
+        let words = &queue.table.shared;
         let size = queue.cells.size;
-        bits::set_bit::<T, Brand>(
-            &queue.table.shared,
-            &mut parts.token,
-            role,
-            size,
-            parts.name,
-        );
+        bits::set_bit::<T, Brand>(words, &mut parts.token, role, size, parts.name);
     }
 
     /// Loads the own bit: whether it is still set. If it is not, another seat has woken this one. The seat must belong to this
@@ -47,14 +42,9 @@ impl<T: Drop> SleeperSeat<T> {
         ensures { SeesBit queue.now.size role result self.old self.new }
     {
         let parts = &mut self.parts;
+        let words = &queue.table.shared;
         let size = queue.cells.size;
-        bits::see_bit::<T, Brand>(
-            &queue.table.shared,
-            &mut parts.token,
-            role,
-            size,
-            parts.name,
-        )
+        bits::see_bit::<T, Brand>(words, &mut parts.token, role, size, parts.name)
     }
 
     /// Clears the own bit: whether it was set. If it was not, another seat has woken this one. It follows a second test that
@@ -67,14 +57,9 @@ impl<T: Drop> SleeperSeat<T> {
         ensures { TakesBit queue.now.size role result self.old self.new }
     {
         let parts = &mut self.parts;
+        let words = &queue.table.shared;
         let size = queue.cells.size;
-        bits::take_back::<T, Brand>(
-            &queue.table.shared,
-            &mut parts.token,
-            role,
-            size,
-            parts.name,
-        )
+        bits::take_back::<T, Brand>(words, &mut parts.token, role, size, parts.name)
     }
 
     /// Notes that a woken seat does not try again, so that it owes a look. The seat must belong to this queue, be idle, and be
@@ -86,14 +71,9 @@ impl<T: Drop> SleeperSeat<T> {
         ensures { AddsNote queue.now.size (as_role role GivesUp) self.old self.new }
     {
         let parts = &mut self.parts;
+        let words = &queue.table.shared;
         let size = queue.cells.size;
-        bits::give_up::<T, Brand>(
-            &queue.table.shared,
-            &mut parts.token,
-            role,
-            size,
-            parts.name,
-        );
+        bits::give_up::<T, Brand>(words, &mut parts.token, role, size, parts.name);
     }
 
     /// Loads the word of this number of the bits of a role, and returns it: bit `j` is that of the seat `64 * word + j`. If no
@@ -105,8 +85,9 @@ impl<T: Drop> SleeperSeat<T> {
         ensures { LooksAt queue.now.size role word result self.old self.new }
     {
         let parts = &mut self.parts;
+        let words = &queue.table.shared;
         let size = queue.cells.size;
-        bits::look::<T, Brand>(&queue.table.shared, &mut parts.token, role, size, word)
+        bits::look::<T, Brand>(words, &mut parts.token, role, size, word)
     }
 
     /// Clears the bit of another seat: whether it was set. If it was, this has woken that seat, and its thread is to be woken.
@@ -118,8 +99,9 @@ impl<T: Drop> SleeperSeat<T> {
         ensures { ClearsBit queue.now.size role other result self.old self.new }
     {
         let parts = &mut self.parts;
+        let words = &queue.table.shared;
         let size = queue.cells.size;
-        bits::clear::<T, Brand>(&queue.table.shared, &mut parts.token, role, size, other)
+        bits::clear::<T, Brand>(words, &mut parts.token, role, size, other)
     }
 
     /// The second test of a sender that has set its bit: whether there is room. The seat must belong to this queue, be idle,

@@ -114,7 +114,7 @@ fn a_call_in_two_parts(rt: HostRuntime) {
     assert_equal(&rt, b.into_seat().left(), 99);
 }
 
-/// The second test of a sender beside a full queue of one cell.
+/// The second test of a sender, which finds a queue of one cell full.
 fn falls_asleep_full(rt: &impl Abort, queue: &Queue<u64>, seat: &mut SleeperSeat<u64>)
     requires idle { IsIdleSeat queue.now.object seat.old.seat }
     requires registered { (duty_as Sender (account_of_seat seat.old)).stage ≡ Registered }
@@ -126,7 +126,7 @@ fn falls_asleep_full(rt: &impl Abort, queue: &Queue<u64>, seat: &mut SleeperSeat
     };
 }
 
-/// The second test of a receiver beside an empty queue, which is open.
+/// The second test of a receiver, which finds the queue empty and open.
 fn falls_asleep_empty(rt: &impl Abort, queue: &Queue<u64>, seat: &mut SleeperSeat<u64>)
     requires idle { IsIdleSeat queue.now.object seat.old.seat }
     requires registered { (duty_as Receiver (account_of_seat seat.old)).stage ≡ Registered }
@@ -210,7 +210,7 @@ fn a_receiver_is_woken_by_a_close(rt: HostRuntime) {
     assert_equal(&rt, takes_back(&queue, &mut a), false);
 }
 
-/// The tests of a sender and of a receiver beside a queue that is shut and empty.
+/// A sender that finds room does not fall asleep, nor does a receiver that finds the queue shut and empty.
 #[test]
 fn nobody_falls_asleep_beside_a_close(rt: HostRuntime) {
     let (queue, mut a, mut b) = open_pair(&rt, 1);

@@ -22,7 +22,7 @@ ghost use Rattle.fak_queue.specs.SeatParts.{queue_parts};
 ghost use Rattle.fak_queue.specs.SeatsSeen.{AllRest, IsSeenIn, SeatSleeps};
 ghost use Rattle.fak_queue.specs.Shown.{IsShownQueue, QueueHolder, QueueView};
 ghost use Rattle.fak_queue.specs.SleeperRest.{AllSeatsRest, OwesNothing, SleepsAs, account_by, marks_by};
-ghost use Rattle.fak_queue.specs.SleeperSeats.{KnowsNotes, SleeperInfo, sleeper_info};
+ghost use Rattle.fak_queue.specs.SleeperSeats.{AreUndealt, KnowsNotes, SleeperInfo, fresh_sleeper, sleeper_info};
 
 /// No wake-up is lost in a running queue. If all seats are at rest, a receiver sleeps only if the queue is empty and open;
 /// a sender sleeps only if it is full and open.
@@ -66,10 +66,14 @@ pub fn no_seat_sleeps_beside_work<T>()
         → (length (contents (reverse shown.core.past)) ≡ key.size) × (shown.core.shut ≡ false) }
 {}
 
-/// What callers see of a seat is what the view of its token in the table knows.
+/// What callers see of a seat is what the view of its token in the table knows. A seat that is still to be dealt is as it will
+/// be dealt.
 pub fn the_table_has_what_callers_see_of_a_seat<T>()
-    ensures { (key : QueueLimits) (s : State (Option T) (QueueView T)) (table : TableId) (name left : ℕ) (p : Phase T)
+    ensures seat { (key : QueueLimits) (s : State (Option T) (QueueView T)) (table : TableId) (name left : ℕ) (p : Phase T)
         (me : QueueHolder T) (id : ℕ) → IsQueueSeat table.slots key.seats name p left me
         → KnowsNotes (queue_parts (object_id table key.seats) name left me) → get_elem? s.views id ≡ some me.0
         → IsSeenIn key s (sleeper_info (queue_parts (object_id table key.seats) name left me)) }
+    ensures undealt { (key : QueueLimits) (s : State (Option T) (QueueView T)) (table : TableId) (stint next n : ℕ)
+        (me : QueueHolder T) (id : ℕ) → AreUndealt key.seats stint next me → next ≤ n → n < key.seats
+        → get_elem? s.views id ≡ some me.0 → IsSeenIn key s (fresh_sleeper (object_id table key.seats) stint n) }
 {}
