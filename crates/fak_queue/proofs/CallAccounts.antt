@@ -1,5 +1,5 @@
 -- How steps and calls of a seat that can sleep change its account.
-use Rattle.std.specs.Prelude.{◌/◌, if◌then◌else◌, ◌&&◌, ◌||◌, ◌==◌}
+use Rattle.std.specs.Prelude.{◌/◌, if◌then◌else◌, ◌||◌, ◌==◌}
 use Rattle.fak_model.specs.declared.note.Sign.{Sign}
 use Rattle.fak_model.specs.declared.note.Sign.TheVariants.{PassesWord}
 use Rattle.fak_model.specs.declared.queue.Kind.TheVariants as made
@@ -12,7 +12,7 @@ use Rattle.fak_queue.specs.CallAccounts.{owes_check, owes_receiver, owes_sender,
 use Rattle.fak_queue.specs.SleeperSeats.{KeepsNotes, SleeperInfo, account_of_seat}
 use Rattle.fak_queue.specs.Sleepers.{as_role, duty_as}
 use Rattle.fak_queue.proofs.SleeperNotes.{all_true}
-use Rattle.fak_queue.proofs.Common.{ClaimsIn, ClaimsOut, Fills, Makes, RefusesClosed, RefusesEmpty, RefusesFull, ShutsAs, Takes, Kind, ◌≡◌, ◌≢◌, ◌⊎◌, ℕ, ℤ, ◌+◌, ◌*◌, ◌<◌, ◌≤◌, List, [], ◌∷◌, Bool, true, false, refl, sym, ap, ◌∙◌, inl, inr, ⊎_elim, arith, true_or_false, common_steps}
+use Rattle.fak_queue.proofs.Common.{ClaimsIn, ClaimsOut, Fills, Makes, RefusesClosed, RefusesEmpty, RefusesFull, ShutsAs, Takes, ◌≡◌, ◌≢◌, ◌⊎◌, ℕ, ℤ, ◌+◌, ◌*◌, ◌<◌, ◌≤◌, [], ◌∷◌, Bool, true, false, refl, ap, ◌∙◌, inl, inr, ⊎_elim, arith, true_or_false, common_steps}
 
 -- ---- steps
 

@@ -1,8 +1,7 @@
 -- The law of sleepers, in the terms of what callers see of their seats.
-use Rattle.fak_core.specs.declared.queue.phase.Phase.TheVariants as phase
 use Rattle.fak_model.specs.Seats.{In}
 use Rattle.fak_channel_core.specs.SleeperMoves.{Account}
-use Rattle.fak_channel_core.specs.SleeperSides.{Awake, Asleep}
+use Rattle.fak_channel_core.specs.SleeperSides.{Awake}
 use Rattle.fak_queue.specs.declared.role.Role.{Role}
 use Rattle.fak_queue.specs.declared.role.Role.TheVariants.{Sender, Receiver}
 use Rattle.fak_queue.specs.Accounts.{account_of, kinds_by}
@@ -12,11 +11,11 @@ use Rattle.fak_queue.specs.SleeperRest.{AllSeatsRest, IsAtRest, IsAsleepAs, IsBe
 use Rattle.fak_queue.specs.SleeperSeats.{AreUndealt, KnowsNotes, SleeperInfo, account_of_seat, fresh_sleeper, sleeper_info}
 use Rattle.fak_model.specs.Views.{names_from}
 use Rattle.fak_model.proofs.Deciding.{same_or_not}
-use Rattle.fak_queue.specs.Sleepers.{duty_as, is_set}
+use Rattle.fak_queue.specs.Sleepers.{duty_as}
 use Rattle.fak_queue.proofs.SeatCalls.{idle_phase, state_shown}
 use Rattle.fak_queue.proofs.SleeperLaws.{receiver_waits_running, sender_waits_running}
 use Rattle.fak_queue.proofs.Stepping.{QueueTable}
-use Rattle.fak_queue.proofs.Common.{Alike, QueueLimits, QueueHolder, IsShownQueue, IsQueueSeat, TableId, Phase, Idle, contents, object_id, queue_seat, state_of, token_names, token_phase, some, get_elem?, ◌≡◌, ◌⊎◌, ℕ, zero, suc, ◌+◌, ◌-◌, ◌<◌, ◌≤◌, arith, List, [], ◌∷◌, length, refl, sym, ap, ◌∙◌, subst, inl, inr, false, true, reverse, reverse-reverse, Some}
+use Rattle.fak_queue.proofs.Common.{Alike, QueueLimits, QueueHolder, IsShownQueue, IsQueueSeat, TableId, Phase, Idle, contents, object_id, state_of, token_names, token_phase, some, get_elem?, ◌≡◌, ◌⊎◌, ℕ, zero, suc, ◌+◌, ◌-◌, ◌<◌, ◌≤◌, arith, [], length, refl, sym, ap, ◌∙◌, subst, inl, inr, false, reverse, reverse-reverse, Some}
 
 module _ {T : Type 0} (key : QueueLimits) (s : QueueTable T) where
   abbrev between : (seat : SleeperInfo T) → IsSeenIn key s seat → state_of seat.seat ≡ Idle → IsBetweenCalls s seat.seat.name

@@ -7,7 +7,7 @@ use Rattle.fak_queue.specs.declared.fault.InsertFault.TheVariants as insertion
 use Rattle.fak_queue.specs.SleeperRest.{marks_by}
 use Rattle.std.specs.Prelude.{Result, MatchOption}
 use Rattle.fak_queue.proofs.Accounts.{marks_grow}
-use Rattle.fak_queue.proofs.Common.{◌≡◌, ◌⊎◌, ℕ, ◌≤◌, List, [], ◌∷◌, Bool, true, false, sym, ap, subst, arith, ⊎_elim, Option, Some, None, Ok, Err, MatchResult, Kind, Mark, SeatInfo, Makes, kinds_in, kinds_out, ClaimsIn, ClaimsOut, Inserts, Deletes, Fills, Takes, WaitsToFill, WaitsToTake, ShutsAs, IsWorn, RefusesInsertion, RefusesDeletion, Idle, Inserting, Deleting, state_of}
+use Rattle.fak_queue.proofs.Common.{◌≡◌, ℕ, ◌≤◌, List, [], ◌∷◌, Bool, true, false, sym, subst, arith, ⊎_elim, Option, Some, None, Ok, Err, MatchResult, Kind, Mark, SeatInfo, Makes, kinds_in, kinds_out, ClaimsIn, ClaimsOut, Inserts, Deletes, Fills, Takes, WaitsToFill, WaitsToTake, ShutsAs, IsWorn, RefusesInsertion, RefusesDeletion}
 
 module _ {T : Type 0} (size : ℕ) (old new : SeatInfo (Mark T)) where
   grows : (kinds : List (Kind T)) → Makes size kinds old new → marks_by old ≤ marks_by new

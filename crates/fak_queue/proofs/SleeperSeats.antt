@@ -4,21 +4,20 @@ use Rattle.fak_model.specs.declared.note.NoteKind.{NoteKind}
 use Rattle.fak_model.specs.Views.{noting, with_note}
 use Rattle.fak_core.specs.declared.queue.phase.Phase.TheVariants as phase
 use Rattle.fak_channel_core.specs.SleeperMoves.{Account, after_note}
-use Rattle.fak_queue.specs.Accounts.{account_of, after_kinds, kinds_by, AreWithin}
+use Rattle.fak_queue.specs.Accounts.{account_of, kinds_by, AreWithin}
 use Rattle.fak_queue.specs.BitSteps.{Notes, NotesNothing, note_by}
 use Rattle.fak_queue.specs.SeatAccounts.{HasAccount, KnowsAccount}
 use Rattle.fak_queue.specs.SeatParts.{PartsInfo, queue_parts}
 use Rattle.fak_queue.specs.SleeperRest.{account_by, marks_by}
 use Rattle.fak_queue.specs.StepTokens.{IsTokenOf, QueueToken, StandsAt}
 use Rattle.fak_model.specs.Limits.{large_seats}
-use Rattle.fak_queue.specs.SleeperSeats.{SleeperInfo, KnowsNotes, KeepsNotes, LeavesNoMark, AddsNote, AddsNoNote, account_of_seat, note_of, notes_in, sleeper_info}
-use Rattle.fak_queue.proofs.Common.{Alike, QueueLimits, QueueHolder, QueueInfo, queue_info, queue_object, IsQueue, IsQueueSeat, IsSeatToken, queue_seat, seat_of, Leaves, Makes, ◌≡◌, ◌≤◌, ℕ, ◌<◌, List, [], ◌∷◌, length, arith, refl, sym, ap, ◌∙◌, subst, reverse, reverse-reverse, Option, Some, Kind, Mark, Phase, TableId, ObjectId, SeatInfo, object_id, state_of, drawn_by, Idle, token_names, token_slots}
+use Rattle.fak_queue.specs.SleeperSeats.{SleeperInfo, KnowsNotes, KeepsNotes, AddsNote, AddsNoNote, account_of_seat, note_of, notes_in, sleeper_info}
+use Rattle.fak_queue.proofs.Common.{Alike, QueueLimits, QueueHolder, QueueInfo, queue_info, queue_object, IsQueue, IsQueueSeat, IsSeatToken, queue_seat, seat_of, Leaves, ◌≡◌, ◌≤◌, ℕ, ◌<◌, List, [], ◌∷◌, length, arith, refl, sym, ap, ◌∙◌, subst, reverse, reverse-reverse, Option, Some, Kind, Mark, Phase, TableId, ObjectId, SeatInfo, object_id, state_of, Idle, token_names}
 use Rattle.fak_queue.proofs.Accounts.{account_made, within_upto}
 use Rattle.fak_queue.proofs.Observations.{seat_observed, state_observed, drawn_observed, makes_observed, told_observed}
 use Rattle.fak_queue.proofs.PartSteps.{noted_kept}
 use Rattle.fak_queue.proofs.SeatAccounts.{has_account, knows_note, knows_still}
 use Rattle.fak_queue.proofs.SeatCalls.{idle_now, idle_token, same_seats}
-use Rattle.fak_queue.proofs.SeatParts.{noted_is, seat_is}
 
 -- ---- what a token's view tells
 

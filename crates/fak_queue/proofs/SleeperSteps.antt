@@ -1,11 +1,8 @@
 -- From each step on the bits to what it leaves at the seat, and what its callers see.
-use Rattle.std.specs.Prelude.{Result}
 use Rattle.fak_model.specs.declared.note.NoteKind.{NoteKind}
 use Rattle.fak_model.specs.declared.note.NoteKind.TheVariants.{AsSender, AsReceiver, Checks}
-use Rattle.fak_model.specs.declared.note.Sign.TheVariants.{Registers, FindsNoItem, FallsAsleep, IsWoken, TakesBack, GivesUp, PassesWord, WakesEnd}
-use Rattle.fak_model.specs.Limits.{large_seats, large_size}
+use Rattle.fak_model.specs.declared.note.Sign.TheVariants.{FindsNoItem, FallsAsleep, IsWoken, TakesBack, PassesWord, WakesEnd}
 use Rattle.fak_model.proofs.Deciding.{same_or_not}
-use Rattle.fak_core.specs.declared.queue.phase.Phase.TheVariants as phase
 use Rattle.fak_queue.specs.declared.role.Role.{Role}
 use Rattle.fak_queue.specs.BitSteps.{Notes, NotesNothing, SawBit, TookBack, Looked, Cleared, TestedRoomAgain, TestedItemAgain, TestedDrainedAgain, CheckedDrained}
 use Rattle.fak_queue.specs.Drained.{IsDrained}
@@ -13,7 +10,7 @@ use Rattle.fak_queue.specs.Found.{HasRoom, HasNoRoom, HasItem, HasNoItem}
 use Rattle.fak_queue.specs.SeatParts.{PartsInfo, queue_parts}
 use Rattle.fak_queue.specs.Sleepers.{as_role}
 use Rattle.fak_queue.specs.SleeperSeats.{SleeperInfo, KnowsNotes, AddsNote, AddsNoNote, SeesBit, TakesBit, LooksAt, ClearsBit, TestsRoom, TestsItem, TestsDrained, ChecksDrained, sleeper_info}
-use Rattle.fak_queue.proofs.Common.{UpperCount, LowerCount, QueueLimits, QueueHolder, QueueView, QueueInfo, queue_info, IsQueue, IsQueueSeat, FitsTable, Close, Has, Full, Shut, ◌≡◌, ℕ, ◌<◌, ◌≤◌, List, [], ◌∷◌, refl, sym, ap, ◌∙◌, subst, inl, inr, arith, reverse, Option, Some, Ok, Err, Bool, true, false, Mark, Phase, TableId, object_id, state_of, Idle, token_names}
+use Rattle.fak_queue.proofs.Common.{UpperCount, LowerCount, QueueLimits, QueueHolder, QueueInfo, queue_info, IsQueue, IsQueueSeat, Close, Has, Full, Shut, ◌≡◌, ℕ, List, ap, subst, inl, inr, reverse, Ok, Err, Bool, true, false, Mark, Phase, TableId, object_id, state_of, Idle}
 use Rattle.fak_queue.proofs.SleeperSeats.{Here, seat_quiet, knows_quiet, adds_no_note, told_quiet, seat_noted, knows_noted, adds_note, told_noted}
 
 module _ {T : Type 0} (key : QueueLimits) {size seats name left : ℕ} {p : Phase T} {table mine : TableId} {m : QueueHolder T} {parts : PartsInfo T} {old : SleeperInfo T} {queue : QueueInfo}

@@ -55,8 +55,8 @@ pub fn an_insertion_and_its_look_owe_nothing<T>()
         → OwesNothing (after_note seats (AsReceiver (PassesWord 0)) (account_by seats notes new)) }
 {}
 
-/// The same in the terms of what callers see of their seats. If all seats rest, a receiver sleeps only if the queue is empty
-/// and open; a sender sleeps only if it is full and open.
+/// No wake-up is lost, in the terms of what callers see of their seats. If all seats rest, a receiver sleeps only if the queue
+/// is empty and open; a sender sleeps only if it is full and open.
 pub fn no_seat_sleeps_beside_work<T>()
     ensures receiver { (key : QueueLimits) (s : State (Option T) (QueueView T)) (shown : IsShownQueue key s)
         (seats : ℕ → SleeperInfo T) → AllRest key s seats → (n : ℕ) → n < key.seats → SeatSleeps key s Receiver (seats n)
