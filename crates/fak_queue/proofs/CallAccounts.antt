@@ -9,10 +9,11 @@ use Rattle.fak_channel_core.specs.SleeperMoves.{Account, after_note}
 use Rattle.fak_queue.specs.declared.role.Role.{Role}
 use Rattle.fak_queue.specs.declared.role.Role.TheVariants.{Sender, Receiver}
 use Rattle.fak_queue.specs.CallAccounts.{owes_check, owes_receiver, owes_sender, tries_in, tries_out}
+use Rattle.fak_queue.specs.SleeperRest.{account_by}
 use Rattle.fak_queue.specs.SleeperSeats.{KeepsNotes, SleeperInfo, account_of_seat}
 use Rattle.fak_queue.specs.Sleepers.{as_role, duty_as}
 use Rattle.fak_queue.proofs.SleeperNotes.{all_true}
-use Rattle.fak_queue.proofs.Common.{ClaimsIn, ClaimsOut, Fills, Makes, RefusesClosed, RefusesEmpty, RefusesFull, ShutsAs, Takes, ◌≡◌, ◌≢◌, ◌⊎◌, ℕ, ℤ, ◌+◌, ◌*◌, ◌<◌, ◌≤◌, [], ◌∷◌, Bool, true, false, refl, ap, ◌∙◌, inl, inr, ⊎_elim, arith, true_or_false, common_steps}
+use Rattle.fak_queue.proofs.Common.{IsWorn, ClaimsIn, ClaimsOut, Fills, Makes, RefusesClosed, RefusesEmpty, RefusesFull, ShutsAs, Takes, ◌≡◌, ◌≢◌, ◌⊎◌, ℕ, ℤ, ◌+◌, ◌*◌, ◌<◌, ◌≤◌, [], ◌∷◌, Bool, true, false, refl, ap, ◌∙◌, inl, inr, ⊎_elim, arith, true_or_false, common_steps}
 
 -- ---- steps
 
@@ -95,3 +96,6 @@ module _ {T : Type 0} (size : ℕ) (old new : SleeperInfo T) (keeps : KeepsNotes
 
   pub by_look : Makes size [] old.seat new.seat → account_of_seat new ≡ account_of_seat old
   by_look makes = keeps.account [] makes
+
+  pub by_worn : IsWorn old.seat new.seat → account_of_seat new ≡ account_of_seat old
+  by_worn w = λ i. account_by (w.unchanged i).object.seats (keeps.notes i) (w.unchanged i)

@@ -22,6 +22,7 @@ use crate::tally::Tally;
 use fak_core::Phase;
 use fak_model::{Deal, LargeFault};
 use std::alloc::Global;
+use std::fmt;
 use std::marker::Model;
 
 /// The seats of a queue that are still to be dealt, in the order of their numbers. Contracts see the object, the stint and the
@@ -65,6 +66,15 @@ impl<T: Drop> UndealtSeats<T> {
         };
         self.next += 1;
         Some(SleeperSeat { parts })
+    }
+}
+
+impl<T> fmt::Debug for UndealtSeats<T> {
+    fn fmt<W: fmt::Write>(&self, f: &mut fmt::Formatter<W>) -> fmt::Result {
+        f.debug_struct("UndealtSeats")
+            .field("next", &self.next)
+            .field("seats", &self.seats)
+            .finish_non_exhaustive()
     }
 }
 

@@ -56,6 +56,7 @@ fn seats_are_dealt_in_order(rt: HostRuntime) {
         assert_equal(&rt, seat.left(), 7);
     }
     assert_case(&rt, &"all are dealt", undealt.next(&queue).is_none());
+    assert_written(&rt, &undealt, "UndealtSeats { next: 3, seats: 3, .. }");
 }
 
 #[test]

@@ -8,7 +8,7 @@ ghost use Rattle.fak_channel_core.specs.SleeperMoves.{Account, after_note};
 ghost use Rattle.fak_channel_core.specs.SleeperSides.{Duty, after_sign, less};
 ghost use Rattle.fak_queue.specs.declared.role.Role.{Role};
 ghost use Rattle.fak_queue.specs.CallAccounts.{owes_check, owes_receiver, owes_sender, tries_in, tries_out};
-ghost use Rattle.fak_queue.specs.Queues.{ClaimsIn, ClaimsOut, Fills, Makes, RefusesClosed, RefusesEmpty, RefusesFull, ShutsAs, Takes};
+ghost use Rattle.fak_queue.specs.Queues.{ClaimsIn, ClaimsOut, Fills, IsWorn, Makes, RefusesClosed, RefusesEmpty, RefusesFull, ShutsAs, Takes};
 ghost use Rattle.fak_queue.specs.SleeperSeats.{KeepsNotes, SleeperInfo, account_of_seat};
 ghost use Rattle.fak_queue.specs.Sleepers.{as_role, duty_as};
 
@@ -62,11 +62,13 @@ pub fn a_deletion_changes_the_account<T>()
         → Takes size k x old.seat new.seat → account_of_seat new ≡ owes_check (owes_sender (account_of_seat old)) }
 {}
 
-/// What the other calls add to the account: a shut owes a look for a sender and a check, and a call that leaves no mark owes
-/// nothing.
+/// What the other calls add to the account: a shut owes a look for a sender and a check. A call that leaves no mark adds nothing,
+/// nor does one of a worn seat.
 pub fn other_calls_change_the_account<T>()
     ensures shuts { (size : ℕ) (first : Bool) (old new : SleeperInfo T) → KeepsNotes size old new
         → ShutsAs size first old.seat new.seat → account_of_seat new ≡ owes_check (owes_sender (account_of_seat old)) }
     ensures observes { (size : ℕ) (old new : SleeperInfo T) → KeepsNotes size old new → Makes size [] old.seat new.seat
+        → account_of_seat new ≡ account_of_seat old }
+    ensures worn { (size : ℕ) (old new : SleeperInfo T) → KeepsNotes size old new → IsWorn old.seat new.seat
         → account_of_seat new ≡ account_of_seat old }
 {}
