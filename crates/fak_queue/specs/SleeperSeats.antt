@@ -19,7 +19,7 @@ use Rattle.fak_queue.specs.declared.role.Role.{Role}
 use Rattle.fak_queue.specs.Accounts.{AreWithin, after_kinds}
 use Rattle.fak_queue.specs.Drained.{IsDrained}
 use Rattle.fak_queue.specs.Found.{HasRoom, HasNoRoom, HasItem, HasNoItem}
-use Rattle.fak_queue.specs.Queues.{Makes, drawn_by, state_of}
+use Rattle.fak_queue.specs.Queues.{Makes, drawn_by, made_by, state_of}
 use Rattle.fak_queue.specs.SeatParts.{PartsInfo}
 use Rattle.fak_queue.specs.Shown.{QueueHolder, sight}
 use Rattle.fak_queue.specs.SleeperRest.{account_by, marks_by}
@@ -39,6 +39,10 @@ account_of_seat s = account_by s.seat.object.seats s.notes s.seat
 -- a seat that an opening deals: it has seen and noted nothing
 abbrev pub fresh_sleeper : {T : Type 0} → ObjectId → ℕ → ℕ → SleeperInfo T
 fresh_sleeper object stint name = record { seat = seat_info object name stint []; notes = [] }
+
+-- the seat 0, which has left marks of these kinds, has noted this, and has seen nothing else
+abbrev pub lone_sleeper : {T : Type 0} → ObjectId → List (Kind T) → List Note → SleeperInfo T
+lone_sleeper object kinds notes = record { seat = seat_info object 0 0 (made_by 0 kinds); notes = notes }
 
 -- the notes, if they are known
 abbrev pub notes_in : Option (List Note) → List Note
