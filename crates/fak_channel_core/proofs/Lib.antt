@@ -38,3 +38,4 @@ pub mod SleeperRounds
 pub mod SleeperLog
 pub mod SleeperProgress
 pub mod SleeperCases
+pub mod LenderSums

@@ -75,7 +75,7 @@ pub record SideKept (n : ℕ) (duty : ℕ → Duty) (bit : ℕ → Bool) : Type 
 -- ---- the weight of one end after its sign
 
 -- a name in a word without a bit set has its bit clear
-clear_bit : (bit : ℕ → Bool) (w b : ℕ) → is_clear bit w ≡ true → b / 64 ≡ w → bit b ≡ false
+pub clear_bit : (bit : ℕ → Bool) (w b : ℕ) → is_clear bit w ≡ true → b / 64 ≡ w → bit b ≡ false
 clear_bit bit w b all q =
     let r = all_at (λ j. not (bit (64 * w + j))) 64 (b % 64) all (mod-lt b (omega arith)) in
     let whole : 64 * w + b % 64 ≡ b = ap (λ v. 64 * v + b % 64) (sym q) ∙ div-add-mod b 64 in
@@ -171,7 +171,7 @@ module _ (n : ℕ) (duty duty' : ℕ → Duty) (bit : ℕ → Bool) (e : ℕ) (l
   in_use k set = elim (le_or_lt n k) [ inl le ↦ absurd (not_awake (duty k).stage (K.beyond k le) (K.owner k set)) | inr lt ↦ lt ]
 
   -- a sign sets no bit except the own one
-  bits_fall : (v : Sign) (k : ℕ) → k ≢ e → bits_after v e bit k ≡ true → bit k ≡ true
+  pub bits_fall : (v : Sign) (k : ℕ) → k ≢ e → bits_after v e bit k ≡ true → bit k ≡ true
   bits_fall Registers k ne set = sym (at_else bit e k true ne) ∙ set
   bits_fall TakesBack k ne set = sym (at_else bit e k false ne) ∙ set
   bits_fall (WakesEnd j) k ne set = elim (same_or_not k j) [

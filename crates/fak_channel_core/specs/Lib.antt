@@ -10,3 +10,6 @@ pub mod SleeperMoves
 pub mod SleeperSchedule
 pub mod SleeperProgress
 pub mod SleeperExamples
+pub mod LenderMoves
+pub mod LenderSchedule
+pub mod LenderProgress
