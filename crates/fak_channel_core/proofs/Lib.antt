@@ -39,3 +39,5 @@ pub mod SleeperLog
 pub mod SleeperProgress
 pub mod SleeperCases
 pub mod LenderSums
+pub mod LenderKept
+pub mod LenderSteps
