@@ -53,7 +53,7 @@ below_clear idle w clear =
     ap (sum_below (λ k. one_if (idle k))) is
     ∙ sum_flat (λ k. one_if (idle k)) (64 * w) 64 (λ i l. none_if (idle (64 * w + i)) (not_true (idle (64 * w + i)) (all_at (λ j. not (idle (64 * w + j))) 64 i clear l)))
 
-has_all : (n w : ℕ) → has_all_ends n w ≡ true → n ≤ 64 * w
+pub has_all : (n w : ℕ) → has_all_ends n w ≡ true → n ≤ 64 * w
 has_all n w all = elim (le_or_lt n (64 * w)) [ inl le ↦ le | inr lt ↦ absurd (not_both (has_all_ends n w) all (ap not (lt_true (64 * w) n lt))) ]
 
 -- nor do the words beyond all ends

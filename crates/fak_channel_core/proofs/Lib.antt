@@ -41,3 +41,6 @@ pub mod SleeperCases
 pub mod LenderSums
 pub mod LenderKept
 pub mod LenderSteps
+pub mod LenderEnds
+pub mod LenderSigns
+pub mod LenderReached
