@@ -36,6 +36,7 @@ pub mod SleeperQueue
 pub mod SleeperReached
 pub mod SleeperRounds
 pub mod SleeperLog
+pub mod SleeperDuties
 pub mod SleeperProgress
 pub mod SleeperCases
 pub mod LenderSums
@@ -44,3 +45,6 @@ pub mod LenderSteps
 pub mod LenderEnds
 pub mod LenderSigns
 pub mod LenderReached
+pub mod LenderLog
+pub mod LenderRefusals
+pub mod LenderProgress

@@ -3,6 +3,10 @@ use Rattle.std.specs.Prelude.{ℕ, ◌≡◌, ◌⊎◌, ◌<◌, Bool, true, fa
 use Rattle.fak_channel_core.specs.SleeperSides.{Awake, Asleep}
 use Rattle.fak_channel_core.specs.LenderMoves.{LendCall, Out, LendDeed, FindsClosed, ClosesLender, LenderEvent, LenderState, lender_opening, is_searching, may_do, lender_does}
 
+-- the event of a caller's deed
+abbrev pub does : ℕ → LendDeed → LenderEvent
+does e x = record { by = e; deed = x }
+
 -- the state after an event, with n ends and m callers: only the first m callers have events. A deed that is not true of the
 -- state changes nothing
 abbrev pub lender_happens : ℕ → ℕ → LenderState → LenderEvent → LenderState
