@@ -13,3 +13,4 @@ pub mod SleeperExamples
 pub mod LenderMoves
 pub mod LenderSchedule
 pub mod LenderProgress
+pub mod LenderExamples

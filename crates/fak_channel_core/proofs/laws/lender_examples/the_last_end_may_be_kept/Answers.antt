@@ -1,0 +1,17 @@
+use Rattle.fak_core.proofs.Common.{refl, inl, inr}
+use Rattle.fak_channel_core.specs.LenderSchedule.{CallerRests}
+use Rattle.fak_channel_core.specs.LenderExamples.{after_lending, last_end_is_kept}
+use Rattle.fak_channel_core.proofs.SleeperCases.{of_three}
+use Rattle.fak_channel_core.proofs.laws.lender_examples.the_last_end_may_be_kept.Goals as goal
+
+pub returns-clause-rests : goal.returns-clause-rests
+returns-clause-rests c = record { call = refl; looks = refl; stage = inl refl }
+
+pub returns-clause-sleeps : goal.returns-clause-sleeps
+returns-clause-sleeps c = record { asleep = refl; bit = refl }
+
+pub returns-clause-rest : goal.returns-clause-rest
+returns-clause-rest c = of_three (CallerRests (after_lending last_end_is_kept))
+    (record { call = refl; looks = refl; stage = inl refl })
+    (record { call = refl; looks = refl; stage = inl refl })
+    (record { call = refl; looks = refl; stage = inr (record { asleep = refl; bit = refl }) })
