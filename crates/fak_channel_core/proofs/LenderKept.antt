@@ -1,15 +1,13 @@
 -- What is true of a lender between any two steps of its callers, and what each step has to show to keep it.
-use Rattle.std.specs.Prelude.{◌≡◌, ◌≢◌, ◌⊎◌, ℕ, ◌+◌, ◌*◌, ◌/◌, ◌<◌, ◌≤◌, nat_lt, cond, Bool, true, false, not, ◌&&◌}
+use Rattle.std.specs.Prelude.{◌≡◌, ◌≢◌, ◌⊎◌, ℕ, ◌+◌, ◌<◌, ◌≤◌, nat_lt, cond, Bool, true}
 use Rattle.fak_model.specs.Histories.{sum_below}
-use Rattle.fak_model.proofs.Leading.{sum_one, sum_same, sum_term}
+use Rattle.fak_model.proofs.Leading.{sum_one, sum_term}
 use Rattle.fak_core.specs.QueueMoves.{with_at}
-use Rattle.fak_core.proofs.Common.{arith, nat_tests, common_steps, refl, sym, ap, ◌∙◌, subst, inl, inr, same_or_not}
-use Rattle.fak_core.proofs.QueueReached.{true_or_false}
+use Rattle.fak_core.proofs.Common.{arith, nat_tests, common_steps, sym, ap, ◌∙◌, subst, inl, inr, same_or_not}
 use Rattle.fak_core.proofs.QueueTurns.{at_here, at_else}
-use Rattle.fak_channel_core.specs.SleeperSides.{Awake, Asleep, Duty, has_passed, relies_on_bit}
-use Rattle.fak_channel_core.specs.LenderMoves.{LendCall, Out, Searching, Holding, Caller, LenderState, has_all_ends, is_searching}
+use Rattle.fak_channel_core.specs.SleeperSides.{Duty, has_passed, relies_on_bit}
+use Rattle.fak_channel_core.specs.LenderMoves.{LendCall, Searching, Caller, LenderState, has_all_ends, is_searching}
 use Rattle.fak_channel_core.proofs.LenderSums.{sum_except, idle_below}
-use Rattle.fak_channel_core.proofs.SleeperTests.{not_both}
 use Rattle.fak_channel_core.proofs.SleeperWeights.{SideKept, weight, is_asleep, kept_one}
 
 -- ---- the weights of a caller, for the sleeper with name b: for an idle end in the words up to w, and for the news of a close

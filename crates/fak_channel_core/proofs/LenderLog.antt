@@ -1,6 +1,5 @@
 -- The log of a lender tells where each caller stands. Only a caller's own deeds change that, and set its bit.
-use Rattle.std.specs.Prelude.{◌≡◌, ◌≢◌, ◌⊎◌, ℕ, nat_lt, ◌&&◌, ◌||◌, Bool, true, false, List, [], ◌∷◌}
-use Rattle.fak_model.specs.declared.note.Sign.{Sign}
+use Rattle.std.specs.Prelude.{◌≡◌, ◌≢◌, ℕ, nat_lt, ◌&&◌, ◌||◌, Bool, true, false, List, [], ◌∷◌}
 use Rattle.fak_model.specs.declared.note.Sign.TheVariants.{Registers, TakesBack, WakesEnd}
 use Rattle.fak_core.specs.QueueMoves.{with_at}
 use Rattle.fak_core.proofs.Common.{arith, common_steps, refl, sym, ap, ◌∙◌, subst, inl, inr, same_or_not, cond_here, cond_else}

@@ -1,16 +1,15 @@
 -- A search that ends without an end has found each end lent or kept since it began. What a deadline does.
-use Rattle.std.specs.Prelude.{◌≡◌, ◌≢◌, ◌⊎◌, ℕ, ◌+◌, ◌*◌, ◌/◌, ◌<◌, ◌≤◌, nat_lt, not, ◌&&◌, Bool, true, false, List, [], ◌∷◌}
+use Rattle.std.specs.Prelude.{◌≡◌, ◌⊎◌, ℕ, ◌+◌, ◌*◌, ◌/◌, ◌<◌, ◌≤◌, nat_lt, not, ◌&&◌, true, false, List, [], ◌∷◌}
 use Rattle.fak_model.specs.declared.note.Sign.TheVariants.{IsWoken, TakesBack, GivesUp}
 use Rattle.fak_core.specs.QueueMoves.{with_at}
-use Rattle.fak_core.proofs.Common.{arith, common_steps, refl, sym, ap, ◌∙◌, subst, inl, inr, same_or_not}
-use Rattle.fak_core.proofs.QueueReached.{true_or_false}
+use Rattle.fak_core.proofs.Common.{arith, refl, sym, ap, ◌∙◌, subst, inl, inr, same_or_not}
 use Rattle.fak_core.proofs.QueueSteps.{by_test}
-use Rattle.fak_core.proofs.QueueTurns.{at_here, at_else, le_or_lt}
-use Rattle.fak_channel_core.specs.SleeperSides.{Awake, Asleep, Woken, tried, owes_look, after_sign, is_woken, relies_on_bit, is_clear}
+use Rattle.fak_core.proofs.QueueTurns.{at_here, at_else}
+use Rattle.fak_channel_core.specs.SleeperSides.{Awake, Asleep, Woken, tried, is_woken, relies_on_bit, is_clear}
 use Rattle.fak_channel_core.specs.LenderMoves.{LendCall, Out, Searching, Holding, Caller, LendDeed, BeginsSearch, FindsClosed, FindsNone, TakesEnd, GivesBack, KeepsEnd, AddsEnd, TestsAgain, ClosesLender, SignsAsCaller, LenderEvent, caller_after, LenderState, has_all_ends, is_out, is_searching, searches_at, holds_end, may_call, may_do, lender_does}
 use Rattle.fak_channel_core.specs.LenderSchedule.{does, lender_happens, EndsBusy, IsOnceNotIdle}
 use Rattle.fak_channel_core.proofs.LenderSums.{has_all}
-use Rattle.fak_channel_core.proofs.LenderSteps.{out_is, searches_is, holds_is}
+use Rattle.fak_channel_core.proofs.LenderSteps.{searches_is}
 use Rattle.fak_channel_core.proofs.SleeperTests.{not_both, both_true, make_both, if_so, lt_true}
 use Rattle.fak_channel_core.proofs.SleeperWeights.{clear_bit}
 

@@ -1,13 +1,13 @@
 -- The steps of a caller that set and clear no bit of a sleeper keep what is true of a lender.
-use Rattle.std.specs.Prelude.{◌≡◌, ◌≢◌, ◌⊎◌, ℕ, suc, zero, ◌+◌, ◌*◌, ◌/◌, ◌==◌, ◌<◌, ◌≤◌, nat_lt, cond, Bool, true, false, not, ◌&&◌}
+use Rattle.std.specs.Prelude.{◌≡◌, ◌≢◌, ℕ, suc, zero, ◌+◌, ◌/◌, ◌==◌, ◌<◌, ◌≤◌, nat_lt, Bool, true, false, not, ◌&&◌}
 use Rattle.fak_core.specs.QueueMoves.{with_at}
-use Rattle.fak_core.proofs.Common.{arith, nat_tests, common_steps, refl, sym, ap, ◌∙◌, subst, inl, inr, same_or_not}
+use Rattle.fak_core.proofs.Common.{arith, nat_tests, common_steps, refl, sym, ap, ◌∙◌, inl, inr, same_or_not}
 use Rattle.fak_core.proofs.QueueSteps.{by_test}
 use Rattle.fak_core.proofs.QueueTurns.{at_here, at_else, le_or_lt}
-use Rattle.fak_channel_core.specs.SleeperSides.{SleepStage, Awake, Duty, owes_look, tried, tried_stage, has_passed, is_registered, relies_on_bit, is_clear}
-use Rattle.fak_channel_core.specs.LenderMoves.{LendCall, Out, Searching, Holding, Caller, LendDeed, BeginsSearch, FindsClosed, FindsNone, TakesEnd, GivesBack, KeepsEnd, AddsEnd, TestsAgain, ClosesLender, LenderState, has_all_ends, is_out, is_searching, searches_at, holds_end, may_call, may_do, lender_does}
+use Rattle.fak_channel_core.specs.SleeperSides.{SleepStage, Duty, owes_look, tried, tried_stage, has_passed, is_registered, relies_on_bit, is_clear}
+use Rattle.fak_channel_core.specs.LenderMoves.{LendCall, Out, Searching, Holding, Caller, BeginsSearch, FindsClosed, FindsNone, TakesEnd, GivesBack, KeepsEnd, AddsEnd, TestsAgain, ClosesLender, LenderState, has_all_ends, is_out, is_searching, searches_at, holds_end, may_call, may_do, lender_does}
 use Rattle.fak_channel_core.proofs.LenderSums.{idle_below, below_none, below_clear, below_all, below_given, below_taken}
-use Rattle.fak_channel_core.proofs.LenderKept.{unsearched, call_weight, news_weight, weight_more, LenderKept, Fits, StepKept, kept_step}
+use Rattle.fak_channel_core.proofs.LenderKept.{unsearched, call_weight, news_weight, weight_more, LenderKept, Fits, kept_step}
 use Rattle.fak_channel_core.proofs.SleeperTests.{not_both, both_true, not_true}
 use Rattle.fak_channel_core.proofs.SleeperWeights.{stirs, owed_most, is_asleep, none_passed}
 

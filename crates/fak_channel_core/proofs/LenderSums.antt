@@ -1,9 +1,9 @@
 -- Sums over the callers of a lender, and the number of idle ends in its first words.
-use Rattle.std.specs.Prelude.{◌≡◌, ◌≢◌, ◌⊎◌, ℕ, suc, zero, ◌+◌, ◌-◌, ◌*◌, ◌/◌, ◌<◌, ◌≤◌, nat_lt, cond, Bool, true, false, not}
+use Rattle.std.specs.Prelude.{◌≡◌, ◌≢◌, ℕ, suc, zero, ◌+◌, ◌-◌, ◌*◌, ◌/◌, ◌<◌, ◌≤◌, nat_lt, cond, Bool, true, false, not}
 use Rattle.fak_model.specs.Histories.{sum_below}
-use Rattle.fak_model.proofs.Leading.{sum_one, sum_le, sum_same, sum_none}
+use Rattle.fak_model.proofs.Leading.{sum_one, sum_le, sum_same}
 use Rattle.fak_core.specs.QueueMoves.{with_at}
-use Rattle.fak_core.proofs.Common.{arith, nat_tests, common_steps, refl, sym, ap, ◌∙◌, subst, inl, inr, same_or_not}
+use Rattle.fak_core.proofs.Common.{arith, common_steps, refl, sym, ap, ◌∙◌, subst, inl, inr, same_or_not}
 use Rattle.fak_core.proofs.QueueTurns.{at_here, at_else, by_place, le_or_lt}
 use Rattle.fak_core.proofs.QueueReached.{true_or_false}
 use Rattle.fak_channel_core.specs.SleeperSides.{is_clear}

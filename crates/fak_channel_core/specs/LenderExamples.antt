@@ -135,6 +135,10 @@ wide_miss = by_caller 1 (BeginsSearch ∷ FindsNone 0 ∷ []) ++ by_caller 0 (Ad
 abbrev pub wide_test : List LenderEvent
 wide_test = by_caller 1 (BeginsSearch ∷ FindsNone 0 ∷ FindsNone 1 ∷ []) ++ goes_to_sleep 1
 
+-- a second test takes the words in order
+abbrev pub wide_skip : List LenderEvent
+wide_skip = by_caller 1 (BeginsSearch ∷ FindsNone 0 ∷ FindsNone 1 ∷ []) ++ caller_signs 1 (Registers ∷ []) ++ by_caller 1 (TestsAgain 1 ∷ []) ++ caller_signs 1 (FallsAsleep ∷ [])
+
 abbrev pub wide_sleep : List LenderEvent
 wide_sleep = wide_test ++ by_caller 1 (TestsAgain 1 ∷ []) ++ caller_signs 1 (FallsAsleep ∷ [])
 
@@ -142,15 +146,19 @@ wide_sleep = wide_test ++ by_caller 1 (TestsAgain 1 ∷ []) ++ caller_signs 1 (F
 
 -- callers take, give back and keep ends that are not theirs, and add ends that the lender has, or beyond the last
 abbrev pub wrong_ends : List LenderEvent
-wrong_ends = both_are_lent ++ by_caller 2 (GivesBack 0 ∷ KeepsEnd 1 ∷ AddsEnd 0 ∷ AddsEnd 2 ∷ BeginsSearch ∷ TakesEnd 0 ∷ [])
+wrong_ends = both_are_lent ++ by_caller 1 (GivesBack 0 ∷ []) ++ by_caller 2 (GivesBack 0 ∷ KeepsEnd 1 ∷ AddsEnd 0 ∷ AddsEnd 2 ∷ BeginsSearch ∷ TakesEnd 0 ∷ [])
 
 -- caller 2 finds none although an end is idle; caller 1 is refused although the lender is open
 abbrev pub wrong_searches : List LenderEvent
 wrong_searches = adder_looks ++ by_caller 2 (BeginsSearch ∷ FindsNone 0 ∷ []) ++ by_caller 1 (FindsClosed ∷ [])
 
--- caller 0 holds an end and sets no bit; caller 2 sleeps and begins no call
+-- caller 0 holds an end, sets no bit and begins no call; caller 2 sleeps and begins no call
 abbrev pub wrong_callers : List LenderEvent
-wrong_callers = caller_sleeps ++ caller_signs 0 (Registers ∷ []) ++ by_caller 2 (BeginsSearch ∷ [])
+wrong_callers = caller_sleeps ++ caller_signs 0 (Registers ∷ []) ++ by_caller 0 (BeginsSearch ∷ []) ++ by_caller 2 (BeginsSearch ∷ [])
+
+-- caller 2 searches: it adds no end meanwhile, and does not close the lender
+abbrev pub wrong_searcher : List LenderEvent
+wrong_searcher = end_is_kept ++ by_caller 2 (BeginsSearch ∷ AddsEnd 0 ∷ ClosesLender ∷ [])
 
 -- caller 2 searches, and takes no step on the bits meanwhile; there is no caller 3
 abbrev pub wrong_signs : List LenderEvent

@@ -2,11 +2,11 @@
 -- of a caller. An idle end is one bit, and so is a caller that sleeps. A caller that finds no idle end sets its bit and tests
 -- again before it sleeps. A caller that gives an end back looks for a caller that sleeps, and clears its bit: that wakes it.
 -- A search takes the words of idle ends in order, from word 0 on. If some began elsewhere, a sleeper might not be woken.
-use Rattle.std.specs.Prelude.{ℕ, ◌+◌, ◌*◌, ◌/◌, ◌==◌, Bool, true, false, not, ◌&&◌, ◌||◌, if◌then◌else◌, nat_lt, List, [], ◌∷◌}
+use Rattle.std.specs.Prelude.{ℕ, ◌+◌, ◌*◌, ◌/◌, ◌==◌, Bool, true, false, not, ◌&&◌, if◌then◌else◌, nat_lt, List, [], ◌∷◌}
 use Rattle.fak_core.specs.QueueMoves.{with_at}
 use Rattle.fak_model.specs.declared.note.Sign.{Sign}
 use Rattle.fak_model.specs.declared.note.Sign.TheVariants.{Registers, FallsAsleep}
-use Rattle.fak_channel_core.specs.SleeperSides.{Awake, Duty, Side, owes_look, tried, after_sign, bits_after, may_sign, is_registered, relies_on_bit, is_clear}
+use Rattle.fak_channel_core.specs.SleeperSides.{Duty, Side, owes_look, tried, after_sign, bits_after, may_sign, is_registered, relies_on_bit, is_clear}
 use Rattle.fak_channel_core.specs.SleeperMoves.{free_duty}
 
 -- ---- what a caller knows

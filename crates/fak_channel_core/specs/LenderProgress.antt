@@ -1,7 +1,7 @@
 -- Progress of a lender: what a caller still has to do until it rests, and the steps that bring it on.
 use Rattle.std.specs.Prelude.{ℕ, ◌≡◌, ◌+◌, ◌-◌, ◌*◌, ◌<◌, suc, Bool}
 use Rattle.fak_channel_core.specs.SleeperProgress.{duty_left}
-use Rattle.fak_channel_core.specs.LenderMoves.{LendCall, Out, Searching, Holding, Caller, LenderEvent, LenderState}
+use Rattle.fak_channel_core.specs.LenderMoves.{LendCall, Searching, Caller, LenderEvent, LenderState}
 use Rattle.fak_channel_core.specs.LenderSchedule.{lender_happens}
 
 -- the most steps by which a search of n ends comes to its end

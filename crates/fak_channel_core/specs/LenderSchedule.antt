@@ -1,7 +1,7 @@
 -- Schedules of a lender, and the states that they reach.
 use Rattle.std.specs.Prelude.{ℕ, ◌≡◌, ◌⊎◌, ◌<◌, Bool, true, false, ◌&&◌, ◌||◌, if◌then◌else◌, nat_lt, List, [], ◌∷◌}
 use Rattle.fak_channel_core.specs.SleeperSides.{Awake, Asleep}
-use Rattle.fak_channel_core.specs.LenderMoves.{LendCall, Out, LendDeed, FindsClosed, ClosesLender, LenderEvent, LenderState, lender_opening, is_searching, may_do, lender_does}
+use Rattle.fak_channel_core.specs.LenderMoves.{Out, LendDeed, FindsClosed, ClosesLender, LenderEvent, LenderState, lender_opening, is_searching, may_do, lender_does}
 
 -- the event of a caller's deed
 abbrev pub does : ℕ → LendDeed → LenderEvent

@@ -1,7 +1,7 @@
 //! Known schedules of a lender, on both sides of the definitions.
 
 ghost use Rattle.std.specs.Prelude.{ℕ, ◌≡◌, ◌∷◌, [], false, true};
-ghost use Rattle.fak_channel_core.specs.LenderExamples.{adder_looks, after_lending, after_wide, bit_is_taken_back, both_are_lent, by_caller, caller_is_told, caller_registers_again, caller_sleeps, caller_wakes, close_comes_first, end_comes_back, end_comes_first, end_is_kept, ends_are_added, kept_end_is_added, last_end_is_kept, lender_is_closed, search_begins, search_beside_end, sleep_expires, two_sleep, wake_goes_on, wake_is_given_up, wake_was_first, wide_borrow, wide_end, wide_miss, wide_search, wide_sleep, wide_test, woken_borrows, woken_is_refused, wrong_callers, wrong_ends, wrong_searches, wrong_signs};
+ghost use Rattle.fak_channel_core.specs.LenderExamples.{adder_looks, after_lending, after_wide, bit_is_taken_back, both_are_lent, by_caller, caller_is_told, caller_registers_again, caller_sleeps, caller_wakes, close_comes_first, end_comes_back, end_comes_first, end_is_kept, ends_are_added, kept_end_is_added, last_end_is_kept, lender_is_closed, search_begins, search_beside_end, sleep_expires, two_sleep, wake_goes_on, wake_is_given_up, wake_was_first, wide_borrow, wide_end, wide_miss, wide_search, wide_skip, wide_sleep, wide_test, woken_borrows, woken_is_refused, wrong_callers, wrong_ends, wrong_searcher, wrong_searches, wrong_signs};
 ghost use Rattle.fak_channel_core.specs.LenderMoves.{FindsNone, GivesBack, Holding, Out, Searching, TakesEnd, has_all_ends};
 ghost use Rattle.fak_channel_core.specs.LenderProgress.{CallerComesOn, caller_to_rest};
 ghost use Rattle.fak_channel_core.specs.LenderSchedule.{AllCallersRest, CallerRests, CallerSleeps, EndsBusy, IsOnceNotIdle, has_deed, is_close, is_refusal};
@@ -39,6 +39,7 @@ pub fn a_caller_tests_again_before_it_sleeps()
     ensures back { (((after_lending bit_is_taken_back).callers 2).duty.stage ≡ Awake)
         × ((after_lending bit_is_taken_back).sleeping 2 ≡ false) }
     ensures closed { ((after_lending close_comes_first).callers 2).duty.stage ≡ Registered }
+    ensures awake { CallerSleeps (after_lending end_comes_first) 2 → ⊥ }
     ensures again { ((after_lending caller_registers_again).callers 2).duty.stage ≡ Registered }
 {}
 
@@ -57,7 +58,8 @@ pub fn a_deadline_of_a_caller_loses_no_wake_up()
 /// sleeps on if the last end is kept; a close wakes it, it is refused, and it passes the news on.
 pub fn the_last_end_may_be_kept()
     ensures kept { ((after_lending end_is_kept).owned 0 ≡ false) × ((after_lending end_is_kept).idle 0 ≡ false) }
-    ensures rests { CallerRests (after_lending end_is_kept) 0 }
+    ensures rests { CallerRests (after_lending end_is_kept) 0
+        × (((after_lending end_is_kept).callers 0).call ≡ Out) }
     ensures added { ((after_lending kept_end_is_added).owned 0 ≡ true)
         × ((after_lending kept_end_is_added).idle 0 ≡ true) }
     ensures owes { ((after_lending kept_end_is_added).callers 0).duty.looks ≡ 1 }
@@ -77,6 +79,7 @@ pub fn the_words_of_a_lender_are_judged()
     ensures last { ((after_wide wide_borrow).callers 1).call ≡ Holding 64 }
     ensures misses { (((after_wide wide_miss).callers 1).call ≡ Out) × ((after_wide wide_miss).idle 0 ≡ true) }
     ensures tests { ((after_wide wide_test).callers 1).duty.stage ≡ Registered }
+    ensures skips { ((after_wide wide_skip).callers 1).duty.stage ≡ Registered }
     ensures sleeps { CallerSleeps (after_wide wide_sleep) 1 }
     ensures one { (has_all_ends 64 1 ≡ true) × (has_all_ends 64 0 ≡ false) }
     ensures two { (has_all_ends 65 1 ≡ false) × (has_all_ends 65 2 ≡ true) }
@@ -92,8 +95,11 @@ pub fn a_deed_that_is_not_true_is_judged()
     ensures found { ((after_lending wrong_searches).callers 2).call ≡ Searching 0 }
     ensures open { has_deed is_refusal (after_lending wrong_searches).log ≡ false }
     ensures holder { ((after_lending wrong_callers).sleeping 0 ≡ false)
-        × (((after_lending wrong_callers).callers 0).duty.stage ≡ Awake) }
+        × (((after_lending wrong_callers).callers 0).duty.stage ≡ Awake)
+        × (((after_lending wrong_callers).callers 0).call ≡ Holding 0) }
     ensures sleeper { ((after_lending wrong_callers).callers 2).call ≡ Out }
+    ensures meanwhile { ((after_lending wrong_searcher).owned 0 ≡ false)
+        × ((after_lending wrong_searcher).closed ≡ false) }
     ensures searcher { (((after_lending wrong_signs).callers 2).duty.looks ≡ 2)
         × ((after_lending wrong_signs).sleeping 2 ≡ false) }
     ensures stranger { (after_lending wrong_signs).sleeping 3 ≡ false }
@@ -119,6 +125,7 @@ pub fn the_steps_of_a_caller_are_judged()
     ensures look { caller_to_rest 2 3 (after_lending end_comes_back) 0 ≡ 4 }
     ensures search { caller_to_rest 2 3 (after_lending search_begins) 2 ≡ 3 }
     ensures woken { caller_to_rest 2 3 (after_lending caller_wakes) 2 ≡ 6 }
+    ensures searches { CallerRests (after_lending search_begins) 2 → ⊥ }
     ensures comes { CallerComesOn 2 3 (after_lending search_begins) 2 }
     ensures rests { CallerComesOn 2 3 (after_lending caller_sleeps) 2 → ⊥ }
 {}

@@ -5,7 +5,7 @@ use Rattle.fak_channel_core.proofs.SleeperCases.{of_three}
 use Rattle.fak_channel_core.proofs.laws.lender_examples.the_last_end_may_be_kept.Goals as goal
 
 pub returns-clause-rests : goal.returns-clause-rests
-returns-clause-rests c = record { call = refl; looks = refl; stage = inl refl }
+returns-clause-rests c = (record { call = refl; looks = refl; stage = inl refl }, refl)
 
 pub returns-clause-sleeps : goal.returns-clause-sleeps
 returns-clause-sleeps c = record { asleep = refl; bit = refl }
