@@ -2,7 +2,7 @@
 -- one caller.
 use Rattle.std.specs.Prelude.{◌≡◌, ◌≢◌, ◌⊎◌, ℕ, ◌+◌, ◌/◌, ◌<◌, nat_lt, Bool, true, false, not, ◌&&◌}
 use Rattle.fak_core.specs.QueueMoves.{with_at}
-use Rattle.fak_core.proofs.Common.{arith, common_steps, refl, sym, ap, ◌∙◌, subst, inl, inr, same_or_not}
+use Rattle.fak_core.proofs.Common.{arith, refl, sym, ap, ◌∙◌, inl, inr, same_or_not}
 use Rattle.fak_core.proofs.QueueSteps.{by_test}
 use Rattle.fak_core.proofs.QueueTurns.{at_here, at_same, at_else}
 use Rattle.fak_channel_core.specs.SleeperSides.{relies_on_bit}

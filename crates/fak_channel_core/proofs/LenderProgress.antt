@@ -1,18 +1,17 @@
 -- A caller that does not rest can take a step that leaves it less to do.
-use Rattle.std.specs.Prelude.{◌≡◌, ◌≢◌, ◌⊎◌, ℕ, suc, zero, ◌+◌, ◌-◌, ◌*◌, ◌/◌, ◌==◌, ◌<◌, ◌≤◌, nat_lt, not, ◌&&◌, Bool, true, false}
+use Rattle.std.specs.Prelude.{◌≡◌, ℕ, ◌+◌, ◌*◌, ◌/◌, ◌==◌, ◌<◌, ◌≤◌, nat_lt, not, ◌&&◌, Bool, true, false}
 use Rattle.fak_model.specs.declared.note.Sign.{Sign}
-use Rattle.fak_model.specs.declared.note.Sign.TheVariants.{Registers, FindsNoItem, FallsAsleep}
-use Rattle.fak_core.specs.QueueMoves.{with_at}
+use Rattle.fak_model.specs.declared.note.Sign.TheVariants.{Registers, FallsAsleep}
 use Rattle.fak_core.proofs.Common.{arith, nat_tests, common_steps, refl, sym, ap, ◌∙◌, subst, inl, inr}
 use Rattle.fak_core.proofs.QueueReached.{true_or_false}
 use Rattle.fak_core.proofs.QueueSteps.{by_test}
 use Rattle.fak_core.proofs.QueueTurns.{at_here, le_or_lt}
-use Rattle.fak_channel_core.specs.SleeperSides.{SleepStage, Awake, Asleep, Duty, tried, tried_stage, has_passed, after_sign, bits_after, is_awake, is_clear, may_sign}
-use Rattle.fak_channel_core.specs.SleeperProgress.{stage_left, looks_left, duty_left}
+use Rattle.fak_channel_core.specs.SleeperSides.{SleepStage, tried_stage, has_passed, after_sign, bits_after, is_awake, is_clear, may_sign}
+use Rattle.fak_channel_core.specs.SleeperProgress.{stage_left, duty_left}
 use Rattle.fak_channel_core.specs.LenderMoves.{LendCall, Out, Searching, Holding, Caller, LendDeed, FindsNone, TakesEnd, SignsAsCaller, LenderState, has_all_ends, caller_after, is_searching, searches_at, caller_side, caller_may, may_do, sleeping_after, lender_does}
-use Rattle.fak_channel_core.specs.LenderSchedule.{does, lender_happens, CallerSleeps, CallerRests}
+use Rattle.fak_channel_core.specs.LenderSchedule.{does, CallerRests}
 use Rattle.fak_channel_core.specs.LenderProgress.{search_left, caller_left, caller_to_rest, CallerComesOn}
-use Rattle.fak_channel_core.proofs.SleeperDuties.{SomeHelps, rests_or_helps, duty_rests, no_looks, stage_done}
+use Rattle.fak_channel_core.proofs.SleeperDuties.{rests_or_helps, duty_rests, no_looks, stage_done}
 use Rattle.fak_channel_core.proofs.SleeperTests.{not_both, make_both, not_false, if_so, lt_true}
 use Rattle.fak_channel_core.proofs.SleeperWeights.{some_below}
 

@@ -1,5 +1,5 @@
 -- What is true of a lender in every reached state, and what follows if all callers rest.
-use Rattle.std.specs.Prelude.{◌≡◌, ◌⊎◌, ℕ, suc, zero, ◌+◌, ◌-◌, ◌*◌, ◌<◌, ◌≤◌, nat_lt, ◌&&◌, Bool, true, false, List, [], ◌∷◌}
+use Rattle.std.specs.Prelude.{◌≡◌, ◌⊎◌, ℕ, suc, zero, ◌+◌, ◌*◌, ◌<◌, ◌≤◌, nat_lt, ◌&&◌, Bool, true, false, List, [], ◌∷◌}
 use Rattle.fak_model.specs.Histories.{sum_below}
 use Rattle.fak_model.proofs.Leading.{sum_none, sum_same}
 use Rattle.fak_core.proofs.Common.{arith, common_steps, refl, ap, ◌∙◌, inl, inr}
@@ -8,14 +8,14 @@ use Rattle.fak_core.proofs.QueueSteps.{by_test}
 use Rattle.fak_core.proofs.QueueTurns.{le_or_lt}
 use Rattle.fak_channel_core.specs.SleeperSides.{SleepStage, Awake, Asleep, Duty}
 use Rattle.fak_channel_core.specs.LenderMoves.{LendCall, LendDeed, BeginsSearch, FindsClosed, FindsNone, TakesEnd, GivesBack, KeepsEnd, AddsEnd, TestsAgain, ClosesLender, SignsAsCaller, LenderEvent, LenderState, lender_opening, is_searching, may_do, lender_does}
-use Rattle.fak_channel_core.specs.LenderSchedule.{lender_happens, lender_run, lender_reached, CallerSleeps, CallerRests, AllCallersRest}
-use Rattle.fak_channel_core.proofs.LenderSums.{one_if, idle_below, has_all, none_below}
+use Rattle.fak_channel_core.specs.LenderSchedule.{lender_happens, lender_run, lender_reached, CallerSleeps, AllCallersRest}
+use Rattle.fak_channel_core.proofs.LenderSums.{one_if, has_all, none_below}
 use Rattle.fak_channel_core.proofs.LenderKept.{unsearched, call_weight, news_weight, word_total, news_total, LenderKept}
 use Rattle.fak_channel_core.proofs.LenderSteps.{kept_begins, kept_refused, kept_takes, kept_gives, kept_keeps, kept_adds, kept_closes, kept_tests, kept_finds}
 use Rattle.fak_channel_core.proofs.LenderSigns.{kept_sign}
-use Rattle.fak_channel_core.proofs.LenderEnds.{EndsKept, LendsKept, ends_do}
+use Rattle.fak_channel_core.proofs.LenderEnds.{LendsKept, ends_do}
 use Rattle.fak_channel_core.proofs.SleeperTests.{not_both, both_true, lt_if}
-use Rattle.fak_channel_core.proofs.SleeperWeights.{SideKept, owed, stirs, unset, is_asleep}
+use Rattle.fak_channel_core.proofs.SleeperWeights.{owed, stirs, unset, is_asleep}
 
 -- ---- every schedule
 

@@ -1,13 +1,13 @@
 -- The signs of a caller keep what is true of a lender.
-use Rattle.std.specs.Prelude.{◌≡◌, ◌≢◌, ◌⊎◌, ℕ, ◌+◌, ◌<◌, ◌≤◌, Bool, true, false, not, ◌&&◌}
+use Rattle.std.specs.Prelude.{◌≡◌, ◌≢◌, ℕ, ◌+◌, ◌<◌, ◌≤◌, Bool, true, false, not, ◌&&◌}
 use Rattle.fak_model.proofs.Leading.{sum_same}
 use Rattle.fak_model.specs.declared.note.Sign.{Sign}
 use Rattle.fak_model.specs.declared.note.Sign.TheVariants.{Registers, FindsNoItem, FallsAsleep, IsWoken, TakesBack, GivesUp, PassesWord, WakesEnd}
 use Rattle.fak_core.specs.QueueMoves.{with_at}
-use Rattle.fak_core.proofs.Common.{arith, common_steps, refl, sym, ap, ◌∙◌, subst, inl, inr, same_or_not}
+use Rattle.fak_core.proofs.Common.{arith, refl, sym, ap, ◌∙◌, subst, inl, inr, same_or_not}
 use Rattle.fak_core.proofs.QueueTurns.{at_here, at_else}
 use Rattle.fak_channel_core.specs.SleeperSides.{Duty, after_sign, bits_after, is_registered, may_sign}
-use Rattle.fak_channel_core.specs.LenderMoves.{LendCall, Out, Caller, SignsAsCaller, LenderState, has_all_ends, tested_after, is_out, is_searching, caller_side, caller_may, lender_does}
+use Rattle.fak_channel_core.specs.LenderMoves.{Caller, SignsAsCaller, LenderState, has_all_ends, tested_after, is_out, is_searching, caller_side, caller_may, lender_does}
 use Rattle.fak_channel_core.proofs.LenderSums.{idle_below}
 use Rattle.fak_channel_core.proofs.LenderKept.{unsearched, call_weight, news_weight, word_total, news_total, CoversNews, LenderKept}
 use Rattle.fak_channel_core.proofs.LenderSteps.{out_is}

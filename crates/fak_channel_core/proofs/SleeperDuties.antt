@@ -1,25 +1,18 @@
 -- What is left to do for a duty, at either side of a channel whose sleepers are bits or in a lender: a duty that does not rest
 -- has a sign that leaves it less.
-use Rattle.std.specs.Prelude.{◌≡◌, ◌≢◌, ◌⊎◌, ℕ, suc, zero, ◌+◌, ◌*◌, ◌/◌, ◌==◌, ◌<◌, ◌≤◌, nat_lt, cond, Bool, true, false, not, ◌&&◌, ◌||◌}
+use Rattle.std.specs.Prelude.{◌≡◌, ◌≢◌, ◌⊎◌, ℕ, suc, zero, ◌+◌, ◌*◌, ◌/◌, ◌==◌, ◌<◌, ◌≤◌, cond, Bool, true, false, not, ◌||◌}
 use Rattle.fak_model.proofs.Leading.{sum_one, sum_le}
-use Rattle.fak_core.specs.declared.queue.phase.Phase.TheVariants.{Idle}
 use Rattle.fak_core.specs.QueueMoves.{with_at}
-use Rattle.fak_core.specs.QueueProgress.{SomeSeatMoves}
-use Rattle.fak_core.proofs.Common.{arith, nat_tests, common_steps, refl, sym, ap, ◌∙◌, subst, inl, inr, same_or_not}
-use Rattle.fak_core.proofs.QueueProgress.{some_moves}
+use Rattle.fak_core.proofs.Common.{arith, nat_tests, common_steps, refl, sym, ap, ◌∙◌, inl, inr, same_or_not}
 use Rattle.fak_core.proofs.QueueReached.{true_or_false}
 use Rattle.fak_core.proofs.QueueSteps.{by_test}
 use Rattle.fak_core.proofs.QueueTurns.{at_here, at_else, by_place}
 use Rattle.fak_model.specs.declared.note.Sign.{Sign}
-use Rattle.fak_model.specs.declared.note.Sign.TheVariants.{TakesBack, IsWoken, GivesUp, PassesWord, WakesEnd, FindsNoItem, FallsAsleep}
+use Rattle.fak_model.specs.declared.note.Sign.TheVariants.{TakesBack, IsWoken, GivesUp, PassesWord, WakesEnd}
 use Rattle.fak_channel_core.specs.SleeperSides.{SleepStage, Awake, Registered, PastLower, Asleep, Woken, Duty, owes_look, has_passed, passes_word, less, after_sign, bits_after, is_clear, is_woken, relies_on_bit, may_sign}
-use Rattle.fak_model.specs.declared.note.NoteKind.TheVariants.{AsSender, AsReceiver, Checks}
-use Rattle.fak_channel_core.specs.SleeperMoves.{Account, after_deed, SleeperState, sender_side, receiver_side, with_deed, is_void, sender_may, receiver_may, is_idle, sender_signs, receiver_signs, Notes}
-use Rattle.fak_channel_core.specs.SleeperSchedule.{SleeperEvent, SenderSigns, ReceiverSigns, ChecksUpper, end_of, sleeper_event, sleeper_happens, IsResting}
-use Rattle.fak_channel_core.specs.SleeperProgress.{stage_left, unpassed, looks_left, duty_left, account_left, asleep_left, steps_to_rest, ComesOn}
-use Rattle.fak_channel_core.proofs.SleeperTests.{not_both, make_both, not_false, if_so, lt_true}
+use Rattle.fak_channel_core.specs.SleeperProgress.{stage_left, unpassed, looks_left, duty_left, asleep_left}
+use Rattle.fak_channel_core.proofs.SleeperTests.{make_both, not_false}
 use Rattle.fak_channel_core.proofs.SleeperWeights.{some_below}
-use Rattle.fak_channel_core.proofs.SleeperKept.{SleeperKept}
 
 -- ---- what is left of looks
 
