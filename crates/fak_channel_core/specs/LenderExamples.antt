@@ -89,7 +89,7 @@ wake_was_first = caller_wakes ++ caller_signs 2 (TakesBack ∷ [])
 abbrev pub wake_is_given_up : List LenderEvent
 wake_is_given_up = wake_was_first ++ caller_signs 2 (IsWoken ∷ GivesUp ∷ [])
 
--- callers 1 and 2 sleep beside the only end, and caller 0 gives it back and wakes caller 1, which passes the wake on
+-- callers 1 and 2 sleep while caller 0 holds the only end, and caller 0 gives it back and wakes caller 1, which passes the wake on
 abbrev pub two_sleep : List LenderEvent
 two_sleep = by_caller 0 (AddsEnd 0 ∷ []) ++ caller_signs 0 (PassesWord 0 ∷ []) ++ borrows 0 0 ++ finds_lent 1 ++ goes_to_sleep 1 ++ finds_lent 2 ++ goes_to_sleep 2
 

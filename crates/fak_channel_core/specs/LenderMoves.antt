@@ -1,7 +1,7 @@
 -- A lender, as plain data: it holds the idle ends of a channel for callers that have none, and each step is one atomic step
 -- of a caller. An idle end is one bit, and so is a caller that sleeps. A caller that finds no idle end sets its bit and tests
 -- again before it sleeps. A caller that gives an end back looks for a caller that sleeps, and clears its bit: that wakes it.
--- A search takes the words of idle ends in order, from word 0 on: that nobody sleeps beside an idle end rests on this order.
+-- A search takes the words of idle ends in order, from word 0 on. Without this order a caller might sleep although an end is idle.
 use Rattle.std.specs.Prelude.{ℕ, ◌+◌, ◌*◌, ◌/◌, ◌==◌, Bool, true, false, not, ◌&&◌, if◌then◌else◌, nat_lt, List, [], ◌∷◌}
 use Rattle.fak_core.specs.QueueMoves.{with_at}
 use Rattle.fak_model.specs.declared.note.Sign.{Sign}

@@ -105,8 +105,8 @@ pub fn a_deed_that_is_not_true_is_judged()
     ensures stranger { (after_lending wrong_signs).sleeping 3 ≡ false }
 {}
 
-/// A search of lent ends ends busy, and each end was lent meanwhile; one beside an idle end does not. A refusal as closed
-/// is in the log, and so is the close.
+/// If all ends are lent, a search ends busy; if an end is idle, it does not. A refusal as closed is in the log, and so is
+/// the close.
 pub fn the_refusals_of_a_lender_are_judged()
     ensures busy { EndsBusy 2 3 (by_caller 2 (FindsNone 0 ∷ [])) (after_lending search_begins) 2 }
     ensures later { EndsBusy 2 3 (by_caller 0 (GivesBack 0 ∷ [])) (after_lending search_begins) 2 → ⊥ }
