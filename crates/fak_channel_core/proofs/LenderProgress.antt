@@ -8,7 +8,7 @@ use Rattle.fak_core.proofs.QueueSteps.{by_test}
 use Rattle.fak_core.proofs.QueueTurns.{at_here, le_or_lt}
 use Rattle.fak_channel_core.specs.SleeperSides.{SleepStage, tried_stage, has_passed, after_sign, bits_after, is_awake, is_clear, may_sign}
 use Rattle.fak_channel_core.specs.SleeperProgress.{stage_left, duty_left}
-use Rattle.fak_channel_core.specs.LenderMoves.{LendCall, Out, Searching, Holding, Caller, LendDeed, FindsNone, TakesEnd, SignsAsCaller, LenderState, has_all_ends, caller_after, is_searching, searches_at, caller_side, caller_may, may_do, sleeping_after, lender_does}
+use Rattle.fak_channel_core.specs.LenderMoves.{LendCall, Out, Searching, Holding, Caller, LendDeed, FindsNone, TakesEnd, SignsAsCaller, LenderState, has_all_ends, caller_after, is_searching, searches_at, sign_may, may_do, sleeping_after, lender_does}
 use Rattle.fak_channel_core.specs.LenderSchedule.{does, CallerRests}
 use Rattle.fak_channel_core.specs.LenderProgress.{search_left, caller_left, caller_to_rest, CallerComesOn}
 use Rattle.fak_channel_core.proofs.SleeperDuties.{rests_or_helps, duty_rests, no_looks, stage_done}
@@ -27,8 +27,8 @@ not_all n w none = elim (le_or_lt n (64 * w)) [ inr l ↦ l | inl le ↦ absurd 
     not_lt : (a b : ℕ) → b ≤ a → nat_lt a b ≡ false
     not_lt a b le = grind (arith, nat_tests)
 
-same_word : (w : ℕ) → (w == w) ≡ true
-same_word w = grind (arith, nat_tests)
+is_itself : (w : ℕ) → (w == w) ≡ true
+is_itself w = grind (arith, nat_tests)
 
 in_word : (w j : ℕ) → j < 64 → (64 * w + j) / 64 ≡ w
 in_word w j l = grind arith
@@ -53,7 +53,7 @@ module _ (n m : ℕ) (s : LenderState) (e : ℕ) (l : e < m) where
   search_comes_on w at =
       let was = ap (search_left n) at in
       elim (true_or_false (is_clear s.idle w)) [
-        | inl clear ↦ comes_on (FindsNone w) (make_both (searches_at now.call w) (is_clear s.idle w) (ap (λ p. searches_at p w) at ∙ same_word w) clear)
+        | inl clear ↦ comes_on (FindsNone w) (make_both (searches_at now.call w) (is_clear s.idle w) (ap (λ p. searches_at p w) at ∙ is_itself w) clear)
             (by_test (λ (c : Caller). caller_left n m c (s.sleeping e) < caller_to_rest n m s e) (has_all_ends n (w + 1)) _ _
             (λ all. let fewer = stage_tried m now.duty.stage (s.sleeping e) now.duty.looks in omega arith)
             (λ some. let more = not_all n (w + 1) some in omega arith))
@@ -61,20 +61,20 @@ module _ (n m : ℕ) (s : LenderState) (e : ℕ) (l : e < m) where
             let k = 64 * w + j.0 in
             let set = not_false (s.idle k) j.2 in
             let is = in_word w j.0 j.1 in
-            comes_on (TakesEnd k) (make_both (searches_at now.call (k / 64)) (s.idle k) (ap (searches_at now.call) is ∙ (ap (λ p. searches_at p w) at ∙ same_word w)) set)
+            comes_on (TakesEnd k) (make_both (searches_at now.call (k / 64)) (s.idle k) (ap (searches_at now.call) is ∙ (ap (λ p. searches_at p w) at ∙ is_itself w)) set)
             (let fewer = stage_tried m now.duty.stage (s.sleeping e) now.duty.looks in omega arith))
       ]
 
   -- a sign that helps is one that the caller may take
-  may_help : is_searching now.call ≡ false → (v : Sign) → may_sign (record { duty = λ k. now.duty; bit = s.sleeping }) e v ≡ true
-      → duty_left m (after_sign m v now.duty) (bits_after v e s.sleeping e) < duty_left m now.duty (s.sleeping e) → caller_may n s e v ≡ true
-  may_help out Registers may less = let none = stage_awake m now.duty.stage (s.sleeping e) now.duty.looks may in absurd (omega arith)
-  may_help out FallsAsleep may less = absurd (not_both false may refl)
-  may_help out v may less = make_both (not (is_searching now.call)) (may_sign (caller_side s) e v) (ap not out) may
+  may_help : (v : Sign) → may_sign (record { duty = λ k. now.duty; bit = s.sleeping }) e v ≡ true
+      → duty_left m (after_sign m v now.duty) (bits_after v e s.sleeping e) < duty_left m now.duty (s.sleeping e) → sign_may n s e v ≡ true
+  may_help Registers may less = let none = stage_awake m now.duty.stage (s.sleeping e) now.duty.looks may in absurd (omega arith)
+  may_help FallsAsleep may less = absurd (not_both false may refl)
+  may_help _ may less = may
 
   quiet_comes_on : (has_passed m now.duty.passed ≡ true → now.duty.looks ≡ 0) → is_searching now.call ≡ false → (CallerRests s e → ⊥) → CallerComesOn n m s e
   quiet_comes_on finished out busy = elim (rests_or_helps m e now.duty s.sleeping finished) [
-    | inr helps ↦ comes_on (SignsAsCaller helps.0) (may_help out helps.0 helps.1 helps.2) (let less = helps.2 in omega arith)
+    | inr helps ↦ comes_on (SignsAsCaller helps.0) (make_both (not (is_searching now.call)) (sign_may n s e helps.0) (ap not out) (may_help helps.0 helps.1 helps.2)) (let less = helps.2 in omega arith)
     | inl rests ↦ absurd (busy (record { call = out; looks = rests.0; stage = elim rests.1 [ inl awake ↦ inl awake | inr asleep ↦ inr (record { asleep = asleep.0; bit = asleep.1 }) ] }))
   ]
 

@@ -1,12 +1,9 @@
 -- What is true of a lender in every reached state, and what follows if all callers rest.
-use Rattle.std.specs.Prelude.{◌≡◌, ◌⊎◌, ℕ, suc, zero, ◌+◌, ◌*◌, ◌<◌, ◌≤◌, nat_lt, ◌&&◌, Bool, true, false, List, [], ◌∷◌}
-use Rattle.fak_model.specs.Histories.{sum_below}
-use Rattle.fak_model.proofs.Leading.{sum_none, sum_same}
-use Rattle.fak_core.proofs.Common.{arith, common_steps, refl, ap, ◌∙◌, inl, inr}
+use Rattle.std.specs.Prelude.{◌≡◌, ℕ, suc, zero, ◌+◌, ◌*◌, ◌<◌, ◌≤◌, nat_lt, ◌&&◌, Bool, true, false, List, [], ◌∷◌}
+use Rattle.fak_core.proofs.Common.{arith, common_steps, refl, ap, inl, inr}
 use Rattle.fak_core.proofs.QueueReached.{true_or_false}
 use Rattle.fak_core.proofs.QueueSteps.{by_test}
 use Rattle.fak_core.proofs.QueueTurns.{le_or_lt}
-use Rattle.fak_channel_core.specs.SleeperSides.{SleepStage, Awake, Asleep, Duty}
 use Rattle.fak_channel_core.specs.LenderMoves.{LendCall, LendDeed, BeginsSearch, FindsClosed, FindsNone, TakesEnd, GivesBack, KeepsEnd, AddsEnd, TestsAgain, ClosesLender, SignsAsCaller, LenderEvent, LenderState, lender_opening, is_searching, may_do, lender_does}
 use Rattle.fak_channel_core.specs.LenderSchedule.{lender_happens, lender_run, lender_reached, CallerSleeps, AllCallersRest}
 use Rattle.fak_channel_core.proofs.LenderSums.{one_if, has_all, none_below}
@@ -15,7 +12,7 @@ use Rattle.fak_channel_core.proofs.LenderSteps.{kept_begins, kept_refused, kept_
 use Rattle.fak_channel_core.proofs.LenderSigns.{kept_sign}
 use Rattle.fak_channel_core.proofs.LenderEnds.{LendsKept, ends_do}
 use Rattle.fak_channel_core.proofs.SleeperTests.{not_both, both_true, lt_if}
-use Rattle.fak_channel_core.proofs.SleeperWeights.{owed, stirs, unset, is_asleep}
+use Rattle.fak_channel_core.proofs.SleeperWeights.{owed, stirs, is_asleep, sum_zero, owed_none, stirs_none}
 
 -- ---- every schedule
 
@@ -71,18 +68,6 @@ pub holds_reached : (n m : ℕ) (vs : List LenderEvent) → LenderHolds n m (len
 holds_reached n m vs = holds_run n m vs lender_opening (holds_opening n m)
 
 -- ---- if all callers rest
-
-sum_zero : (f : ℕ → ℕ) (n : ℕ) → ((k : ℕ) → k < n → f k ≡ 0) → sum_below f n ≡ 0
-sum_zero f n none = sum_same f (λ k. 0) n none ∙ sum_none (λ k. 0) n (λ k. refl)
-
-owed_none : (b : ℕ) (g : Duty) → g.looks ≡ 0 → owed b g ≡ 0
-owed_none b g none = grind (arith, common_steps)
-
-stirs_none : (p : SleepStage) (i t : Bool) → (p ≡ Awake) ⊎ ((p ≡ Asleep) × (i ≡ true)) → stirs p i t ≡ 0
-stirs_none p i t r = elim r [
-  | inl awake ↦ ap (λ p. stirs p i t) awake
-  | inr asleep ↦ ap (λ p. stirs p i t) asleep.0 ∙ ap unset asleep.1
-]
 
 out_none : (p : LendCall) (w : ℕ) → is_searching p ≡ false → unsearched p w ≡ 0
 out_none p w out = grind (arith, common_steps)

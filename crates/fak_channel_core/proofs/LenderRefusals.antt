@@ -7,7 +7,7 @@ use Rattle.fak_core.proofs.QueueSteps.{by_test}
 use Rattle.fak_core.proofs.QueueTurns.{at_here, at_else}
 use Rattle.fak_channel_core.specs.SleeperSides.{Awake, Asleep, Woken, tried, is_woken, relies_on_bit, is_clear}
 use Rattle.fak_channel_core.specs.LenderMoves.{LendCall, Out, Searching, Holding, Caller, LendDeed, BeginsSearch, FindsClosed, FindsNone, TakesEnd, GivesBack, KeepsEnd, AddsEnd, TestsAgain, ClosesLender, SignsAsCaller, LenderEvent, caller_after, LenderState, has_all_ends, is_out, is_searching, searches_at, holds_end, may_call, may_do, lender_does}
-use Rattle.fak_channel_core.specs.LenderSchedule.{does, lender_happens, EndsBusy, IsOnceNotIdle}
+use Rattle.fak_channel_core.specs.LenderSchedule.{does, lender_happens, CallerSleeps, CallerRests, EndsBusy, IsOnceNotIdle}
 use Rattle.fak_channel_core.proofs.LenderSums.{has_all}
 use Rattle.fak_channel_core.proofs.LenderSteps.{searches_is}
 use Rattle.fak_channel_core.proofs.SleeperTests.{not_both, both_true, make_both, if_so, lt_true}
@@ -104,8 +104,8 @@ once_not_idle n m k (v ∷ vs) s e w at busy l le = elim (event_goes n m w s e a
 -- ---- deadlines, and a woken caller
 
 module _ (n m : ℕ) (s : LenderState) (e : ℕ) where
-  pub back_in_time : s.sleeping e ≡ false → lender_happens n m s (does e (SignsAsCaller TakesBack)) ≡ s
-  back_in_time clear =
+  pub back_late : s.sleeping e ≡ false → lender_happens n m s (does e (SignsAsCaller TakesBack)) ≡ s
+  back_late clear =
       by_test (λ (t : LenderState). t ≡ s) (nat_lt e m && may_do n s e (SignsAsCaller TakesBack)) (lender_does n m s e (SignsAsCaller TakesBack)) s
       (λ b. let may = (both_true (nat_lt e m) (may_do n s e (SignsAsCaller TakesBack)) b).1 in
       let sign = (both_true (not (is_searching (s.callers e).call)) (relies_on_bit (s.callers e).duty.stage && s.sleeping e) may).1 in
@@ -118,9 +118,22 @@ module _ (n m : ℕ) (s : LenderState) (e : ℕ) where
         ap (λ (t : LenderState). t.callers e) (if_so (nat_lt e m && may_do n s e x) (lender_does n m s e x) s (make_both (nat_lt e m) (may_do n s e x) (lt_true e m l) may))
         ∙ at_here s.callers e (caller_after n m x (s.callers e))
 
-    pub gives_up_late : is_searching (s.callers e).call ≡ false → (s.callers e).duty.stage ≡ Woken
+    pub back_in_time : is_searching (s.callers e).call ≡ false → CallerSleeps s e → (s.callers e).duty.looks ≡ 0
+        → CallerRests (lender_happens n m s (does e (SignsAsCaller TakesBack))) e × ((lender_happens n m s (does e (SignsAsCaller TakesBack))).sleeping e ≡ false)
+    back_in_time out sleeps none =
+        let may = make_both (not (is_searching (s.callers e).call)) (relies_on_bit (s.callers e).duty.stage && s.sleeping e) (ap not out)
+        (make_both (relies_on_bit (s.callers e).duty.stage) (s.sleeping e) (ap relies_on_bit sleeps.asleep) sleeps.bit) in
+        let done = done_by (SignsAsCaller TakesBack) may in (
+          record { call = ap (λ (c : Caller). is_searching c.call) done ∙ out; looks = ap (λ (c : Caller). c.duty.looks) done ∙ none; stage = inl (ap (λ (c : Caller). c.duty.stage) done) },
+          ap (λ (t : LenderState). t.sleeping e)
+              (if_so (nat_lt e m && may_do n s e (SignsAsCaller TakesBack)) (lender_does n m s e (SignsAsCaller TakesBack)) s
+              (make_both (nat_lt e m) (may_do n s e (SignsAsCaller TakesBack)) (lt_true e m l) may))
+              ∙ at_here s.sleeping e false,
+        )
+
+    pub gives_up : is_searching (s.callers e).call ≡ false → (s.callers e).duty.stage ≡ Woken
         → ((lender_happens n m s (does e (SignsAsCaller GivesUp))).callers e).duty.looks ≡ (s.callers e).duty.looks + 1
-    gives_up_late out woken =
+    gives_up out woken =
         ap (λ (c : Caller). c.duty.looks) (done_by (SignsAsCaller GivesUp) (make_both (not (is_searching (s.callers e).call)) (is_woken (s.callers e).duty.stage) (ap not out) (ap is_woken woken)))
 
     pub wakes : is_searching (s.callers e).call ≡ false → (s.callers e).duty.stage ≡ Asleep → s.sleeping e ≡ false

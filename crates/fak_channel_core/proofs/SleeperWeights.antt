@@ -3,7 +3,7 @@
 use Rattle.std.specs.Prelude.{◌≡◌, ◌≢◌, ◌⊎◌, ℕ, suc, zero, ◌+◌, ◌*◌, ◌/◌, ◌%◌, ◌==◌, ◌<◌, ◌≤◌, cond, Bool, true, false, not, ◌||◌}
 use Rattle.std.proofs.Math.Nat.{div-add-mod, mod-lt}
 use Rattle.fak_model.specs.Histories.{sum_below}
-use Rattle.fak_model.proofs.Leading.{sum_one, sum_same}
+use Rattle.fak_model.proofs.Leading.{sum_none, sum_one, sum_same}
 use Rattle.fak_core.specs.QueueMoves.{with_at}
 use Rattle.fak_core.proofs.Common.{arith, nat_tests, common_steps, refl, sym, ap, ◌∙◌, subst, inl, inr, same_or_not}
 use Rattle.fak_core.proofs.QueueTurns.{at_here, at_else, le_or_lt}
@@ -331,3 +331,17 @@ kept_same n duty duty' bit same K = record {
   beyond = λ k le. ap (λ g. g.stage) (same k) ∙ K.beyond k le;
   finished = λ k all. ap (λ g. g.looks) (same k) ∙ K.finished k (sym (ap (λ g. has_passed n g.passed) (same k)) ∙ all);
 }
+
+-- ---- rest
+
+pub sum_zero : (f : ℕ → ℕ) (n : ℕ) → ((k : ℕ) → k < n → f k ≡ 0) → sum_below f n ≡ 0
+sum_zero f n none = sum_same f (λ k. 0) n none ∙ sum_none (λ k. 0) n (λ k. refl)
+
+pub owed_none : (b : ℕ) (g : Duty) → g.looks ≡ 0 → owed b g ≡ 0
+owed_none b g none = grind (arith, common_steps)
+
+pub stirs_none : (p : SleepStage) (i t : Bool) → (p ≡ Awake) ⊎ ((p ≡ Asleep) × (i ≡ true)) → stirs p i t ≡ 0
+stirs_none p i t r = elim r [
+  | inl awake ↦ ap (λ p. stirs p i t) awake
+  | inr asleep ↦ ap (λ p. stirs p i t) asleep.0 ∙ ap unset asleep.1
+]

@@ -128,11 +128,15 @@ abbrev pub may_call : Caller → Bool
 may_call c = is_out c.call && not (relies_on_bit c.duty.stage)
 
 -- a caller sets its bit only if it has no call. It falls asleep once its second test has passed all words and has found the
--- lender open. It takes no other step on the bits during a search
+-- lender open
+abbrev pub sign_may : ℕ → LenderState → ℕ → Sign → Bool
+sign_may n s e Registers = is_out (s.callers e).call && may_sign (caller_side s) e Registers
+sign_may n s e FallsAsleep = is_registered (s.callers e).duty.stage && (has_all_ends n (s.callers e).tested && not s.closed)
+sign_may n s e v = may_sign (caller_side s) e v
+
+-- it takes no step on the bits during a search
 abbrev pub caller_may : ℕ → LenderState → ℕ → Sign → Bool
-caller_may n s e Registers = is_out (s.callers e).call && may_sign (caller_side s) e Registers
-caller_may n s e FallsAsleep = (is_out (s.callers e).call && is_registered (s.callers e).duty.stage) && (has_all_ends n (s.callers e).tested && not s.closed)
-caller_may n s e v = not (is_searching (s.callers e).call) && may_sign (caller_side s) e v
+caller_may n s e v = not (is_searching (s.callers e).call) && sign_may n s e v
 
 abbrev pub may_do : ℕ → LenderState → ℕ → LendDeed → Bool
 may_do n s e BeginsSearch = may_call (s.callers e) && not s.closed

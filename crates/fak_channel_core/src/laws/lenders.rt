@@ -33,8 +33,9 @@ pub fn an_end_is_lent_to_one_caller()
 {}
 
 /// A refusal is true. A search that ends without an end has found each end lent, or kept, at some time since it began. A
-/// caller is refused as closed only if a caller has closed the lender. A deadline ends a sleep as long as nobody has woken
-/// the caller. After that it does nothing, and a caller that gives up owes a look for the next sleeper.
+/// caller is refused as closed only if a caller has closed the lender. A deadline ends a sleep, and leaves nothing to do, as
+/// long as nobody has woken the caller. After that it ends nothing. A woken caller that gives up owes a look for the next
+/// sleeper.
 pub fn a_refusal_is_true()
     ensures busy { (n m e k : ℕ) (s : LenderState) (events : List LenderEvent) → (s.callers e).call ≡ Searching 0
         → EndsBusy n m events s e → k < n → IsOnceNotIdle n m events s k }
@@ -43,9 +44,13 @@ pub fn a_refusal_is_true()
         → (lender_reached n m schedule).closed ≡ true }
     ensures close { (n m : ℕ) (schedule : List LenderEvent)
         → (lender_reached n m schedule).closed ≡ has_deed is_close (lender_reached n m schedule).log }
-    ensures in_time { (n m e : ℕ) (s : LenderState) → s.sleeping e ≡ false
+    ensures in_time { (n m e : ℕ) (s : LenderState) → e < m → is_searching (s.callers e).call ≡ false
+        → CallerSleeps s e → (s.callers e).duty.looks ≡ 0
+        → CallerRests (lender_happens n m s (does e (SignsAsCaller TakesBack))) e
+        × ((lender_happens n m s (does e (SignsAsCaller TakesBack))).sleeping e ≡ false) }
+    ensures late { (n m e : ℕ) (s : LenderState) → s.sleeping e ≡ false
         → lender_happens n m s (does e (SignsAsCaller TakesBack)) ≡ s }
-    ensures late { (n m e : ℕ) (s : LenderState) → e < m → is_searching (s.callers e).call ≡ false
+    ensures gives_up { (n m e : ℕ) (s : LenderState) → e < m → is_searching (s.callers e).call ≡ false
         → (s.callers e).duty.stage ≡ Woken
         → ((lender_happens n m s (does e (SignsAsCaller GivesUp))).callers e).duty.looks
         ≡ (s.callers e).duty.looks + 1 }
