@@ -63,8 +63,8 @@ tested_after Registers t = 0
 tested_after _ t = t
 
 -- a caller after its deed, among m callers and n ends. The end of a search, and a refusal, tell that a woken caller has
--- tried again. Who makes an end idle owes a look; so does who closes the lender, and who finds it closed: it passes the
--- news on
+-- tried again. A caller that makes an end idle owes a look. So does one that closes the lender, and one that finds it
+-- closed: it passes the news on
 abbrev pub caller_after : ℕ → ℕ → LendDeed → Caller → Caller
 caller_after n m BeginsSearch c = record c { call = Searching 0 }
 caller_after n m FindsClosed c = record c { duty = owes_look (tried c.duty) }

@@ -1,7 +1,7 @@
 //! Callers of the laws of a lender: each cites one law and concludes something in other words.
 
 ghost use Rattle.std.specs.Prelude.{◌≡◌, ◌≢◌, ℕ, ◌+◌, ◌<◌, List, false, true};
-ghost use Rattle.fak_channel_core.specs.LenderMoves.{BeginsSearch, Holding, LenderEvent, LenderState, Out, Searching, SignsAsCaller, caller_by, is_searching};
+ghost use Rattle.fak_channel_core.specs.LenderMoves.{BeginsSearch, Holding, LenderEvent, LenderState, Out, Searching, SignsAsCaller, TakesEnd, is_searching};
 ghost use Rattle.fak_channel_core.specs.LenderProgress.{CallerComesOn};
 ghost use Rattle.fak_channel_core.specs.LenderSchedule.{AllCallersRest, CallerSleeps, EndsBusy, IsOnceNotIdle, does, has_deed, is_refusal, lender_happens, lender_reached};
 ghost use Rattle.fak_channel_core.specs.SleeperSides.{Asleep};
@@ -10,7 +10,7 @@ ghost use Rattle.fak_model.specs.declared.note.Sign.TheVariants.{IsWoken, Regist
 use crate::laws::lenders::{
     a_caller_knows_where_it_stands, a_caller_sets_its_own_bit, a_lender_never_locks_up,
     a_refusal_is_true, a_woken_caller_goes_on, an_end_is_lent_to_one_caller,
-    nobody_sleeps_beside_an_idle_end,
+    an_idle_end_is_lost_to_its_holder, nobody_sleeps_beside_an_idle_end,
 };
 
 /// If all callers rest and an end is idle, nobody sleeps.
@@ -62,6 +62,14 @@ pub fn a_try_sets_no_bit()
     a_caller_sets_its_own_bit();
 }
 
+/// An end that nobody takes stays idle.
+pub fn an_end_that_nobody_takes_stays_idle()
+    ensures { (n m k : ℕ) (s : LenderState) (v : LenderEvent) → v.deed ≢ TakesEnd k → s.idle k ≡ true
+        → (lender_happens n m s v).idle k ≡ true }
+{
+    an_idle_end_is_lost_to_its_holder();
+}
+
 /// No other caller can give a caller a look to take.
 pub fn another_caller_adds_no_look()
     ensures { (n m e : ℕ) (s : LenderState) (v : LenderEvent) → e ≢ v.by → (s.callers e).duty.looks ≡ 0
@@ -92,7 +100,8 @@ pub fn a_cleared_bit_ends_the_sleep_of_a_caller()
 mod tests {
     use super::{
         a_caller_that_owes_a_look_comes_on, a_cleared_bit_ends_the_sleep_of_a_caller,
-        a_search_beside_an_idle_end_takes_one, a_try_sets_no_bit, an_idle_end_keeps_callers_awake,
+        a_search_beside_an_idle_end_takes_one, a_try_sets_no_bit,
+        an_end_that_nobody_takes_stays_idle, an_idle_end_keeps_callers_awake,
         an_open_lender_refuses_no_call_as_closed, another_caller_adds_no_look,
         nobody_sleeps_in_a_closed_lender, two_callers_hold_two_ends,
     };
@@ -105,6 +114,7 @@ mod tests {
         a_search_beside_an_idle_end_takes_one();
         an_open_lender_refuses_no_call_as_closed();
         a_try_sets_no_bit();
+        an_end_that_nobody_takes_stays_idle();
         another_caller_adds_no_look();
         a_caller_that_owes_a_look_comes_on();
         a_cleared_bit_ends_the_sleep_of_a_caller();

@@ -1,11 +1,11 @@
 //! The laws of a lender of ends, for every number of ends and of callers and every schedule.
 
 ghost use Rattle.std.specs.Prelude.{◌⊎◌, ◌≡◌, ◌≢◌, ℕ, ◌+◌, ◌<◌, List, false, true};
-ghost use Rattle.fak_channel_core.specs.LenderMoves.{AddsEnd, BeginsSearch, FindsClosed, Holding, LenderEvent, LenderState, Out, Searching, SignsAsCaller, caller_by, is_searching};
+ghost use Rattle.fak_channel_core.specs.LenderMoves.{AddsEnd, BeginsSearch, FindsClosed, GivesBack, Holding, LenderEvent, LenderState, Out, Searching, SignsAsCaller, TakesEnd, caller_by, is_searching};
 ghost use Rattle.fak_channel_core.specs.LenderProgress.{CallerComesOn, caller_to_rest};
 ghost use Rattle.fak_channel_core.specs.LenderSchedule.{AllCallersRest, CallerRests, CallerSleeps, EndsBusy, IsOnceNotIdle, does, has_deed, is_close, is_refusal, lender_happens, lender_reached};
 ghost use Rattle.fak_channel_core.specs.SleeperSides.{Asleep, Awake, Woken};
-ghost use Rattle.fak_model.specs.declared.note.Sign.TheVariants.{GivesUp, IsWoken, Registers, TakesBack};
+ghost use Rattle.fak_model.specs.declared.note.Sign.TheVariants.{GivesUp, IsWoken, Registers, TakesBack, WakesEnd};
 
 /// No wake-up is lost. If all callers rest, a caller sleeps only if no end is idle and the lender is open.
 pub fn nobody_sleeps_beside_an_idle_end()
@@ -56,10 +56,24 @@ pub fn a_refusal_is_true()
         ≡ (s.callers e).duty.looks + 1 }
 {}
 
-/// Only a caller's own registration sets its bit. A try takes no such step, so it sets none.
+/// Only a caller's own registration sets its bit. A try takes no such step, so it sets none. Only a look of some caller, or
+/// the caller itself, clears the bit.
 pub fn a_caller_sets_its_own_bit()
-    ensures { (n m k : ℕ) (s : LenderState) (v : LenderEvent) → s.sleeping k ≡ false
+    ensures set { (n m k : ℕ) (s : LenderState) (v : LenderEvent) → s.sleeping k ≡ false
         → (lender_happens n m s v).sleeping k ≡ true → (v.by ≡ k) × (v.deed ≡ SignsAsCaller Registers) }
+    ensures cleared { (n m k : ℕ) (s : LenderState) (v : LenderEvent) → s.sleeping k ≡ true
+        → (lender_happens n m s v).sleeping k ≡ false
+        → (v.deed ≡ SignsAsCaller (WakesEnd k)) ⊎ ((v.by ≡ k) × (v.deed ≡ SignsAsCaller TakesBack)) }
+{}
+
+/// Searches go on without locks. A search loses an idle end only to a caller that takes it, and then holds it. An end
+/// becomes idle only if a caller gives it back or adds it.
+pub fn an_idle_end_is_lost_to_its_holder()
+    ensures taken { (n m k : ℕ) (s : LenderState) (v : LenderEvent) → s.idle k ≡ true
+        → (lender_happens n m s v).idle k ≡ false
+        → (v.deed ≡ TakesEnd k) × (((lender_happens n m s v).callers v.by).call ≡ Holding k) }
+    ensures given { (n m k : ℕ) (s : LenderState) (v : LenderEvent) → s.idle k ≡ false
+        → (lender_happens n m s v).idle k ≡ true → (v.deed ≡ GivesBack k) ⊎ (v.deed ≡ AddsEnd k) }
 {}
 
 /// A caller knows where it stands: its deeds alone tell it, and no event of another caller changes it.
