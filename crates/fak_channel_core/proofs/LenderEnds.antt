@@ -26,7 +26,7 @@ out_never p q k h = cc
 searching_never : (p : LendCall) (w : ℕ) → p ≡ Searching w → Never p
 searching_never p w q k h = cc
 
-abbrev end_number : LendCall → ℕ
+abbrev pub end_number : LendCall → ℕ
 end_number (Holding k) = k
 end_number _ = 0
 

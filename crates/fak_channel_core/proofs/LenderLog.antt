@@ -50,19 +50,21 @@ module _ (n m : ℕ) (s : LenderState) (e : ℕ) (T : IsLogged n m s) (x : LendD
       refused ClosesLender may false q r = absurd (not_both false r refl)
       refused (SignsAsCaller v) may false q r = absurd (not_both false r refl)
 
+  pub logged_does : may_do n s e x ≡ true → IsLogged n m (lender_does n m s e x)
+  logged_does may = record { callers = told_deed; close = close_deed; refused = refused_deed may }
+
 logged_run : (n m : ℕ) (vs : List LenderEvent) (s : LenderState) → IsLogged n m s → IsLogged n m (lender_run n m vs s)
 logged_run n m [] s T = T
 logged_run n m (v ∷ vs) s T =
     logged_run n m vs (lender_happens n m s v)
     (by_test (IsLogged n m) (nat_lt v.by m && may_do n s v.by v.deed) (lender_does n m s v.by v.deed) s
-    (λ b. record {
-      callers = told_deed n m s v.by T v.deed;
-      close = close_deed n m s v.by T v.deed;
-      refused = refused_deed n m s v.by T v.deed (both_true (nat_lt v.by m) (may_do n s v.by v.deed) b).1;
-    }) (λ b. T))
+    (λ b. logged_does n m s v.by T v.deed (both_true (nat_lt v.by m) (may_do n s v.by v.deed) b).1) (λ b. T))
+
+pub logged_opening : (n m : ℕ) → IsLogged n m lender_opening
+logged_opening n m = record { callers = λ k. refl; close = refl; refused = λ r. absurd (not_both false r refl) }
 
 pub logged_reached : (n m : ℕ) (vs : List LenderEvent) → IsLogged n m (lender_reached n m vs)
-logged_reached n m vs = logged_run n m vs lender_opening (record { callers = λ k. refl; close = refl; refused = λ r. absurd (not_both false r refl) })
+logged_reached n m vs = logged_run n m vs lender_opening (logged_opening n m)
 
 -- ---- what an event leaves as it is
 

@@ -48,3 +48,4 @@ pub mod LenderReached
 pub mod LenderLog
 pub mod LenderRefusals
 pub mod LenderProgress
+pub mod LenderHistory

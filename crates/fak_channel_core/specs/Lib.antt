@@ -12,5 +12,6 @@ pub mod SleeperProgress
 pub mod SleeperExamples
 pub mod LenderMoves
 pub mod LenderSchedule
+pub mod LenderHistory
 pub mod LenderProgress
 pub mod LenderExamples

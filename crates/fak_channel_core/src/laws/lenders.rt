@@ -1,6 +1,7 @@
 //! The laws of a lender of ends, for every number of ends and of callers and every schedule.
 
 ghost use Rattle.std.specs.Prelude.{◌⊎◌, ◌≡◌, ◌≢◌, ℕ, ◌+◌, ◌<◌, List, false, true};
+ghost use Rattle.fak_channel_core.specs.LenderHistory.{IsLenderHistory, LentTo, is_idle_end, is_owned_end, place_of};
 ghost use Rattle.fak_channel_core.specs.LenderMoves.{AddsEnd, BeginsSearch, FindsClosed, GivesBack, Holding, LenderEvent, LenderState, Out, Searching, SignsAsCaller, TakesEnd, caller_by, is_searching};
 ghost use Rattle.fak_channel_core.specs.LenderProgress.{CallerComesOn, caller_to_rest};
 ghost use Rattle.fak_channel_core.specs.LenderSchedule.{AllCallersRest, CallerRests, CallerSleeps, EndsBusy, IsOnceNotIdle, does, has_deed, is_close, is_refusal, lender_happens, lender_reached};
@@ -74,6 +75,19 @@ pub fn an_idle_end_is_lost_to_its_holder()
         → (v.deed ≡ TakesEnd k) × (((lender_happens n m s v).callers v.by).call ≡ Holding k) }
     ensures given { (n m k : ℕ) (s : LenderState) (v : LenderEvent) → s.idle k ≡ false
         → (lender_happens n m s v).idle k ≡ true → (v.deed ≡ GivesBack k) ⊎ (v.deed ≡ AddsEnd k) }
+{}
+
+/// The log of a lender is a legal history, and tells where each end is. An end is taken only while it is idle, and given
+/// back or kept only by its borrower. A search or a second test passes a word only while no end of it is idle.
+pub fn every_lender_schedule_is_legal()
+    ensures legal { (n m : ℕ) (schedule : List LenderEvent) → IsLenderHistory n (lender_reached n m schedule).log }
+    ensures idle { (n m k : ℕ) (schedule : List LenderEvent)
+        → (lender_reached n m schedule).idle k ≡ is_idle_end (place_of k (lender_reached n m schedule).log) }
+    ensures owned { (n m k : ℕ) (schedule : List LenderEvent)
+        → (lender_reached n m schedule).owned k ≡ is_owned_end (place_of k (lender_reached n m schedule).log) }
+    ensures held { (n m e k : ℕ) (schedule : List LenderEvent)
+        → ((lender_reached n m schedule).callers e).call ≡ Holding k
+        → place_of k (lender_reached n m schedule).log ≡ LentTo e }
 {}
 
 /// A caller knows where it stands: its deeds alone tell it, and no event of another caller changes it.
