@@ -34,7 +34,7 @@ abbrev lent_name : EndPlace → ℕ
 lent_name (LentTo e) = e
 lent_name _ = 0
 
-one_borrower : (p : EndPlace) (e f : ℕ) → p ≡ LentTo e → p ≡ LentTo f → e ≡ f
+pub one_borrower : (p : EndPlace) (e f : ℕ) → p ≡ LentTo e → p ≡ LentTo f → e ≡ f
 one_borrower p e f q r = ap lent_name (sym q ∙ r)
 
 -- what is said of a place goes through the test of a name

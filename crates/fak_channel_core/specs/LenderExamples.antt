@@ -172,3 +172,23 @@ search_begins = both_are_lent ++ by_caller 2 (BeginsSearch ∷ [])
 
 abbrev pub search_beside_end : List LenderEvent
 search_beside_end = adder_looks ++ borrows 0 0 ++ by_caller 2 (BeginsSearch ∷ [])
+
+-- ---- histories, newest first
+
+-- caller 0 adds end 0; caller 1 takes it
+abbrev pub end_added : List LenderEvent
+end_added = does 0 (AddsEnd 0) ∷ []
+
+abbrev pub end_taken : List LenderEvent
+end_taken = does 1 (TakesEnd 0) ∷ end_added
+
+-- it keeps it, and adds it again
+abbrev pub end_returned : List LenderEvent
+end_returned = does 1 (AddsEnd 0) ∷ does 1 (KeepsEnd 0) ∷ end_taken
+
+-- an end of the second word is added
+abbrev pub far_end_added : List LenderEvent
+far_end_added = does 0 (AddsEnd 64) ∷ []
+
+abbrev pub closed_log : List LenderEvent
+closed_log = does 0 ClosesLender ∷ []

@@ -1,6 +1,7 @@
 //! Callers of the laws of a lender: each cites one law and concludes something in other words.
 
 ghost use Rattle.std.specs.Prelude.{◌≡◌, ◌≢◌, ℕ, ◌+◌, ◌<◌, List, false, true};
+ghost use Rattle.fak_channel_core.specs.LenderHistory.{LentTo, place_of};
 ghost use Rattle.fak_channel_core.specs.LenderMoves.{BeginsSearch, Holding, LenderEvent, LenderState, Out, Searching, SignsAsCaller, TakesEnd, is_searching};
 ghost use Rattle.fak_channel_core.specs.LenderProgress.{CallerComesOn};
 ghost use Rattle.fak_channel_core.specs.LenderSchedule.{AllCallersRest, CallerSleeps, EndsBusy, IsOnceNotIdle, does, has_deed, is_refusal, lender_happens, lender_reached};
@@ -10,7 +11,8 @@ ghost use Rattle.fak_model.specs.declared.note.Sign.TheVariants.{IsWoken, Regist
 use crate::laws::lenders::{
     a_caller_knows_where_it_stands, a_caller_sets_its_own_bit, a_lender_never_locks_up,
     a_refusal_is_true, a_woken_caller_goes_on, an_end_is_lent_to_one_caller,
-    an_idle_end_is_lost_to_its_holder, nobody_sleeps_beside_an_idle_end,
+    an_idle_end_is_lost_to_its_holder, every_lender_schedule_is_legal,
+    nobody_sleeps_beside_an_idle_end,
 };
 
 /// If all callers rest and an end is idle, nobody sleeps.
@@ -35,6 +37,16 @@ pub fn two_callers_hold_two_ends()
         → ((lender_reached n m schedule).callers e).call ≡ Holding j
         → ((lender_reached n m schedule).callers f).call ≡ Holding k → j ≢ k }
 {
+    an_end_is_lent_to_one_caller();
+}
+
+/// The log names the borrower of each lent end.
+pub fn the_log_names_each_borrower()
+    ensures { (n m e k : ℕ) (schedule : List LenderEvent)
+        → place_of k (lender_reached n m schedule).log ≡ LentTo e
+        → ((lender_reached n m schedule).callers e).call ≡ Holding k }
+{
+    every_lender_schedule_is_legal();
     an_end_is_lent_to_one_caller();
 }
 
@@ -103,7 +115,7 @@ mod tests {
         a_search_beside_an_idle_end_takes_one, a_try_sets_no_bit,
         an_end_that_nobody_takes_stays_idle, an_idle_end_keeps_callers_awake,
         an_open_lender_refuses_no_call_as_closed, another_caller_adds_no_look,
-        nobody_sleeps_in_a_closed_lender, two_callers_hold_two_ends,
+        nobody_sleeps_in_a_closed_lender, the_log_names_each_borrower, two_callers_hold_two_ends,
     };
 
     #[test]
@@ -111,6 +123,7 @@ mod tests {
         an_idle_end_keeps_callers_awake();
         nobody_sleeps_in_a_closed_lender();
         two_callers_hold_two_ends();
+        the_log_names_each_borrower();
         a_search_beside_an_idle_end_takes_one();
         an_open_lender_refuses_no_call_as_closed();
         a_try_sets_no_bit();

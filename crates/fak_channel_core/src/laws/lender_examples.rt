@@ -1,10 +1,12 @@
 //! Known schedules of a lender, on both sides of the definitions.
 
 ghost use Rattle.std.specs.Prelude.{ℕ, ◌≡◌, ◌∷◌, [], false, true};
-ghost use Rattle.fak_channel_core.specs.LenderExamples.{adder_looks, after_lending, after_wide, bit_is_taken_back, both_are_lent, by_caller, caller_is_told, caller_registers_again, caller_sleeps, caller_wakes, close_comes_first, end_comes_back, end_comes_first, end_is_kept, ends_are_added, kept_end_is_added, last_end_is_kept, lender_is_closed, search_begins, search_beside_end, sleep_expires, two_sleep, wake_goes_on, wake_is_given_up, wake_was_first, wide_borrow, wide_end, wide_miss, wide_search, wide_skip, wide_sleep, wide_test, woken_borrows, woken_is_refused, wrong_callers, wrong_ends, wrong_searcher, wrong_searches, wrong_signs};
-ghost use Rattle.fak_channel_core.specs.LenderMoves.{FindsNone, GivesBack, Holding, Out, Searching, TakesEnd, has_all_ends};
+ghost use Rattle.fak_channel_core.specs.LenderExamples.{adder_looks, after_lending, after_wide, bit_is_taken_back, both_are_lent, by_caller, caller_is_told, caller_registers_again, caller_sleeps, caller_wakes, close_comes_first, closed_log, end_comes_back, end_comes_first, end_added, end_is_kept, end_returned, end_taken, ends_are_added, far_end_added, kept_end_is_added, last_end_is_kept, lender_is_closed, search_begins, search_beside_end, sleep_expires, two_sleep, wake_goes_on, wake_is_given_up, wake_was_first, wide_borrow, wide_end, wide_miss, wide_search, wide_skip, wide_sleep, wide_test, woken_borrows, woken_is_refused, wrong_callers, wrong_ends, wrong_searcher, wrong_searches, wrong_signs};
+ghost use Rattle.fak_channel_core.specs.LenderHistory.{IsLenderHistory, is_owned_end, place_of};
+ghost use Rattle.fak_channel_core.specs.LenderMoves.{AddsEnd, BeginsSearch, ClosesLender, FindsClosed, FindsNone, GivesBack, Holding, KeepsEnd, Out, Searching, SignsAsCaller, TakesEnd, TestsAgain, has_all_ends};
 ghost use Rattle.fak_channel_core.specs.LenderProgress.{CallerComesOn, caller_to_rest};
-ghost use Rattle.fak_channel_core.specs.LenderSchedule.{AllCallersRest, CallerRests, CallerSleeps, EndsBusy, IsOnceNotIdle, has_deed, is_close, is_refusal};
+ghost use Rattle.fak_channel_core.specs.LenderSchedule.{AllCallersRest, CallerRests, CallerSleeps, EndsBusy, IsOnceNotIdle, does, has_deed, is_close, is_refusal};
+ghost use Rattle.fak_model.specs.declared.note.Sign.TheVariants.{FallsAsleep};
 ghost use Rattle.fak_channel_core.specs.SleeperSides.{Asleep, Awake, Registered, Woken};
 
 /// A caller sleeps while both ends are lent, and all callers rest. Once an end is idle the caller sleeps still, but the one
@@ -128,4 +130,30 @@ pub fn the_steps_of_a_caller_are_judged()
     ensures searches { CallerRests (after_lending search_begins) 2 → ⊥ }
     ensures comes { CallerComesOn 2 3 (after_lending search_begins) 2 }
     ensures rests { CallerComesOn 2 3 (after_lending caller_sleeps) 2 → ⊥ }
+{}
+
+/// A history in which an end is taken twice at once, or given back by another, is not legal. Nor is one in which a search or
+/// a second test passes the word of an idle end, or a call begins or a caller falls asleep after a close.
+pub fn the_histories_of_a_lender_are_judged()
+    ensures legal { IsLenderHistory 2 (does 1 (GivesBack 0) ∷ end_taken) }
+    ensures returned { IsLenderHistory 2 end_returned }
+    ensures lent_again { IsLenderHistory 2 (does 2 (TakesEnd 0) ∷ does 1 (GivesBack 0) ∷ end_taken) }
+    ensures earlier { IsLenderHistory 2 (does 0 ClosesLender ∷ does 1 (TakesEnd 0) ∷ []) → ⊥ }
+    ensures never_added { IsLenderHistory 2 (does 1 (TakesEnd 0) ∷ []) → ⊥ }
+    ensures twice { IsLenderHistory 2 (does 2 (TakesEnd 0) ∷ end_taken) → ⊥ }
+    ensures giver { IsLenderHistory 2 (does 2 (GivesBack 0) ∷ end_taken) → ⊥ }
+    ensures keeper { IsLenderHistory 2 (does 2 (KeepsEnd 0) ∷ end_taken) → ⊥ }
+    ensures added { IsLenderHistory 2 (does 2 (AddsEnd 0) ∷ end_taken) → ⊥ }
+    ensures beyond { IsLenderHistory 2 (does 0 (AddsEnd 2) ∷ []) → ⊥ }
+    ensures passed { IsLenderHistory 2 (does 1 (FindsNone 0) ∷ end_taken) }
+    ensures idle { IsLenderHistory 2 (does 1 (FindsNone 0) ∷ end_added) → ⊥ }
+    ensures test { IsLenderHistory 2 (does 1 (TestsAgain 0) ∷ end_added) → ⊥ }
+    ensures far { IsLenderHistory 65 (does 1 (TestsAgain 0) ∷ far_end_added) }
+    ensures far_test { IsLenderHistory 65 (does 1 (TestsAgain 1) ∷ far_end_added) → ⊥ }
+    ensures begins { IsLenderHistory 2 (does 1 BeginsSearch ∷ closed_log) → ⊥ }
+    ensures told { IsLenderHistory 2 (does 1 FindsClosed ∷ closed_log) }
+    ensures open { IsLenderHistory 2 (does 1 FindsClosed ∷ end_added) → ⊥ }
+    ensures sleeps { IsLenderHistory 2 (does 1 (SignsAsCaller FallsAsleep) ∷ closed_log) → ⊥ }
+    ensures owned { (is_owned_end (place_of 0 end_taken) ≡ true)
+        × (is_owned_end (place_of 0 (does 1 (KeepsEnd 0) ∷ end_taken)) ≡ false) }
 {}
