@@ -1,5 +1,5 @@
 -- The log of a lender tells where each end is, and each deed might come after the ones before it.
-use Rattle.std.specs.Prelude.{◌≡◌, ◌≢◌, ℕ, ◌+◌, ◌/◌, ◌==◌, ◌<◌, nat_lt, cond, not, ◌&&◌, Bool, true, false, List, [], ◌∷◌}
+use Rattle.std.specs.Prelude.{◌≡◌, ◌≢◌, ℕ, ◌+◌, ◌/◌, ◌==◌, nat_lt, cond, not, ◌&&◌, Bool, true, false, List, [], ◌∷◌}
 use Rattle.fak_model.specs.declared.note.Sign.{Sign}
 use Rattle.fak_model.specs.declared.note.Sign.TheVariants.{FallsAsleep}
 use Rattle.fak_core.specs.QueueMoves.{with_at}
@@ -8,7 +8,7 @@ use Rattle.fak_core.proofs.QueueSteps.{by_test}
 use Rattle.fak_core.proofs.QueueTurns.{at_here, at_else}
 use Rattle.fak_channel_core.specs.SleeperSides.{is_registered, is_clear}
 use Rattle.fak_channel_core.specs.LenderMoves.{LendCall, Out, Searching, Holding, Caller, LendDeed, BeginsSearch, FindsClosed, FindsNone, TakesEnd, GivesBack, KeepsEnd, AddsEnd, TestsAgain, ClosesLender, SignsAsCaller, LenderEvent, caller_after, LenderState, lender_opening, has_all_ends, is_out, is_searching, searches_at, may_call, idle_after, owned_after, sign_may, may_do, lender_does}
-use Rattle.fak_channel_core.specs.LenderSchedule.{lender_happens, lender_run, lender_reached, has_deed, is_close}
+use Rattle.fak_channel_core.specs.LenderSchedule.{lender_happens, lender_run, lender_reached}
 use Rattle.fak_channel_core.specs.LenderHistory.{EndPlace, NotOwned, IdleEnd, LentTo, place_after, place_of, NoneIdle, SignMayCome, MayCome, IsLenderHistory, is_idle_end, is_owned_end}
 use Rattle.fak_channel_core.proofs.LenderSteps.{holds_is}
 use Rattle.fak_channel_core.proofs.LenderEnds.{end_number}

@@ -1,7 +1,7 @@
-use Rattle.std.specs.Prelude.{◌≡◌, ℕ, Bool, true, false}
-use Rattle.fak_core.proofs.Common.{sym, ap, ◌∙◌, subst, inl, inr}
-use Rattle.fak_channel_core.specs.LenderMoves.{LendCall, Holding}
-use Rattle.fak_channel_core.specs.LenderHistory.{EndPlace, LentTo, is_idle_end, is_owned_end, place_of}
+use Rattle.std.specs.Prelude.{◌≡◌}
+use Rattle.fak_core.proofs.Common.{ap, ◌∙◌, subst, inl, inr}
+use Rattle.fak_channel_core.specs.LenderMoves.{Holding}
+use Rattle.fak_channel_core.specs.LenderHistory.{is_idle_end, is_owned_end, place_of}
 use Rattle.fak_channel_core.specs.LenderSchedule.{lender_reached}
 use Rattle.fak_channel_core.proofs.LenderHistory.{one_borrower}
 use Rattle.fak_channel_core.proofs.SleeperTests.{not_both}

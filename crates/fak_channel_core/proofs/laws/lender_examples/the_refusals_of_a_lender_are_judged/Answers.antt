@@ -1,5 +1,4 @@
 use Rattle.fak_core.proofs.Common.{refl, inl, inr}
-use Rattle.fak_channel_core.proofs.SleeperCases.{not_set}
 use Rattle.fak_channel_core.proofs.laws.lender_examples.the_refusals_of_a_lender_are_judged.Goals as goal
 
 pub returns-clause-busy : goal.returns-clause-busy
