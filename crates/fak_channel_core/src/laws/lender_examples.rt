@@ -113,7 +113,8 @@ pub fn the_refusals_of_a_lender_are_judged()
     ensures busy { EndsBusy 2 3 (by_caller 2 (FindsNone 0 ∷ [])) (after_lending search_begins) 2 }
     ensures later { EndsBusy 2 3 (by_caller 0 (GivesBack 0 ∷ [])) (after_lending search_begins) 2 → ⊥ }
     ensures lent { IsOnceNotIdle 2 3 (by_caller 0 (GivesBack 0 ∷ [])) (after_lending search_begins) 0 }
-    ensures found { EndsBusy 2 3 (by_caller 2 (FindsNone 0 ∷ TakesEnd 1 ∷ [])) (after_lending search_beside_end) 2 → ⊥ }
+    ensures found { EndsBusy 2 3 (by_caller 2 (FindsNone 0 ∷ TakesEnd 1 ∷ GivesBack 1 ∷ []))
+        (after_lending search_beside_end) 2 → ⊥ }
     ensures stays { IsOnceNotIdle 2 3 (by_caller 2 (FindsNone 0 ∷ [])) (after_lending search_beside_end) 1 → ⊥ }
     ensures refused { has_deed is_refusal (after_lending caller_is_told).log ≡ true }
     ensures close { has_deed is_close (after_lending caller_is_told).log ≡ true }

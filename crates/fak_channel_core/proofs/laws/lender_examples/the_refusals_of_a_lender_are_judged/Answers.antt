@@ -11,7 +11,7 @@ pub returns-clause-lent : goal.returns-clause-lent
 returns-clause-lent c = inl refl
 
 pub returns-clause-found : goal.returns-clause-found
-returns-clause-found c busy = elim busy [ inl out ↦ cc | inr more ↦ elim more.1 [ inl out ↦ cc | inr none ↦ absurd none.1 ] ]
+returns-clause-found c busy = elim busy [ inl out ↦ cc | inr more ↦ elim more.1 [ inl out ↦ cc | inr none ↦ (let searches = none.0 in cc) ] ]
 
 pub returns-clause-stays : goal.returns-clause-stays
 returns-clause-stays c once = elim once [ inl lent ↦ cc | inr lent ↦ cc ]
