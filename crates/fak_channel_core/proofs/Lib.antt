@@ -36,5 +36,16 @@ pub mod SleeperQueue
 pub mod SleeperReached
 pub mod SleeperRounds
 pub mod SleeperLog
+pub mod SleeperDuties
 pub mod SleeperProgress
 pub mod SleeperCases
+pub mod LenderSums
+pub mod LenderKept
+pub mod LenderSteps
+pub mod LenderEnds
+pub mod LenderSigns
+pub mod LenderReached
+pub mod LenderLog
+pub mod LenderRefusals
+pub mod LenderProgress
+pub mod LenderHistory

@@ -10,3 +10,8 @@ pub mod SleeperMoves
 pub mod SleeperSchedule
 pub mod SleeperProgress
 pub mod SleeperExamples
+pub mod LenderMoves
+pub mod LenderSchedule
+pub mod LenderHistory
+pub mod LenderProgress
+pub mod LenderExamples

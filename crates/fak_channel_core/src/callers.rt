@@ -1,5 +1,6 @@
 //! Callers of the laws: each cites one law and concludes something in other words.
 
+pub mod lenders;
 pub mod sleepers;
 
 ghost use Rattle.std.specs.Prelude.{◌≡◌, ℕ, ◌<◌, ◌+◌, List, length, true};

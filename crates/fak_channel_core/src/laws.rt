@@ -3,6 +3,8 @@
 
 pub mod channel;
 pub mod examples;
+pub mod lender_examples;
+pub mod lenders;
 pub mod semaphore;
 pub mod sleeper_examples;
 pub mod sleepers;
