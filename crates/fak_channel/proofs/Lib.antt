@@ -1,9 +1,3 @@
-pub mod Counting
-pub mod Deals
-pub mod Trying
-pub mod Receipts
-pub mod Claims
-pub mod CallSteps
-pub mod OneProof
-pub mod Borrowing
-pub mod Opened
+pub mod Covering
+pub mod Debts
+pub mod Transitions

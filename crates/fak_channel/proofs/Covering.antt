@@ -1,0 +1,132 @@
+-- How looks pay what an end owes on one side.
+use Rattle.std.proofs.Common.{◌≡◌, ◌⊎◌, ℕ, ◌+◌, ◌*◌, ◌-◌, ◌/◌, ◌<◌, ◌≤◌, Bool, true, false, refl, ap, sym, ◌∙◌, subst, inl, inr, arith, Option, Some, None, IfSome, nat_lt, if◌then◌else◌}
+use Rattle.std.specs.Prelude.{◌||◌, ◌==◌}
+use Rattle.std.proofs.lemmas.Grind.{common_steps}
+use Rattle.fak_model.specs.Limits.{large_seats}
+use Rattle.fak_model.proofs.Common.{nat_tests}
+use Rattle.fak_channel_core.specs.SleeperSides.{Duty, has_passed, less, passes_word}
+use Rattle.fak_queue.proofs.SleeperNotes.{all_true}
+use Rattle.fak_channel.specs.declared.standing.Looks.{Looks}
+use Rattle.fak_channel.specs.Looks.{words_of, word_at, IsToPass, next_in, owing, past_word, past_bits, finding, retrying, done_at, Covers}
+
+true_is_not_false : {A : Type 0} → true ≡ false → A
+true_is_not_false e = absurd (let f : true ≡ false = e in cc)
+
+-- ---- numbers
+
+-- all words are still to be loaded
+all_to_pass : (from words v : ℕ) → from < 64 * words → v < words → ((from / 64 ≤ v) × (v < from / 64 + words)) ⊎ (v + words < from / 64 + words)
+all_to_pass from words v below small = grind arith
+
+next_below : (count k : ℕ) → 0 < count → next_in count k < count
+next_below count k some = grind (arith, nat_tests)
+
+word_of_next : (words k : ℕ) → 64 * next_in words k / 64 ≡ next_in words k
+word_of_next words k = omega arith
+
+-- one word less is to be loaded
+passed_one : (from words left v : ℕ) → from < 64 * words → left ≤ words → v < words → ((from / 64 ≤ v) × (v < from / 64 + left)) ⊎ (v + words < from / 64 + left)
+    → (v ≡ from / 64) ⊎ (((64 * next_in words (from / 64) / 64 ≤ v) × (v < 64 * next_in words (from / 64) / 64 + (left - 1))) ⊎ (v + words < 64 * next_in words (from / 64) / 64 + (left - 1)))
+passed_one from words left v below few small is = grind (arith, nat_tests)
+
+-- none is left after the last
+passed_last : (from words left v : ℕ) → from < 64 * words → left ≤ 1 → v < words → ((from / 64 ≤ v) × (v < from / 64 + left)) ⊎ (v + words < from / 64 + left) → v ≡ from / 64
+passed_last from words left v below few small is = grind arith
+
+module _ {ends : ℕ} {l : Looks} {g : Duty} where
+  -- the stage does not matter
+  pub covers_same : (h : Duty) → h.looks ≡ g.looks → h.passed ≡ g.passed → Covers ends l g → Covers ends l h
+  covers_same h looks passed c = record {
+    few = subst (λ n. n ≤ 1) (sym looks) c.few;
+    owed = λ none. looks ∙ c.owed none;
+    from = c.from;
+    left = c.left;
+    found = c.found;
+    passed = λ owed v below. subst (λ (f : ℕ → Bool). (f v ≡ true) ⊎ IsToPass (words_of ends) l v) (sym passed) (c.passed owed v below);
+  }
+
+  pub covers_owing : (h : Duty) → h.looks ≤ 1 → Covers ends l g → Covers ends (owing ends l) h
+  covers_owing h few c = record {
+    few = few;
+    owed = λ none. true_is_not_false none;
+    from = c.from;
+    left = omega arith;
+    found = c.found;
+    passed = λ owed v below. inr (all_to_pass l.from (words_of ends) v c.from below);
+  }
+
+  -- ---- a look
+
+  -- the word of this number is passed too
+  now_passed : (v : ℕ) → Bool
+  now_passed v = (v == word_at l) || g.passed v
+
+  now_true : (v : ℕ) → g.passed v ≡ true → now_passed v ≡ true
+  now_true v is = grind (common_steps, nat_tests)
+
+  now_own : (v : ℕ) → v ≡ word_at l → now_passed v ≡ true
+  now_own v is = grind (common_steps, nat_tests)
+
+  -- the last word is passed
+  all_passed : l.is_owed ≡ true → Covers ends l g → l.left ≤ 1 → has_passed ends now_passed ≡ true
+  all_passed owed c few = all_true (λ k. now_passed (k / 64)) ends (λ k below. by k (c.passed owed (k / 64) (omega (arith, below))) (omega (arith, below)))
+    where
+      by : (k : ℕ) → (g.passed (k / 64) ≡ true) ⊎ IsToPass (words_of ends) l (k / 64) → k / 64 < words_of ends → now_passed (k / 64) ≡ true
+      by k (inl was) small = now_true (k / 64) was
+      by k (inr to) small = now_own (k / 64) (passed_last l.from (words_of ends) l.left (k / 64) c.from few small to)
+
+  pub covers_past : l.is_owed ≡ true → Covers ends l g → Covers ends (past_word ends l) (passes_word ends (word_at l) g)
+  covers_past owed c = record {
+    few = few_looks (has_passed ends now_passed);
+    owed = λ none. ap (λ b. if b then 0 else g.looks) (all_passed owed c (last none));
+    from = (let n = next_below (words_of ends) (word_at l) (some_word c.from) in omega (arith, n));
+    left = (let n = c.left in omega (arith, n));
+    found = c.found;
+    passed = λ still v below. then_passed v below (c.passed owed v below);
+  }
+    where
+      few_looks : (b : Bool) → (if b then 0 else g.looks) ≤ 1
+      few_looks true = omega arith
+      few_looks false = c.few
+      last : nat_lt 1 l.left ≡ false → l.left ≤ 1
+      last is = grind (arith, nat_tests)
+      some_word : {n : ℕ} → l.from < 64 * n → 0 < n
+      some_word less = omega (arith, less)
+      then_passed : (v : ℕ) → v < words_of ends → (g.passed v ≡ true) ⊎ IsToPass (words_of ends) l v → (now_passed v ≡ true) ⊎ IsToPass (words_of ends) (past_word ends l) v
+      then_passed v below (inl was) = inl (now_true v was)
+      then_passed v below (inr to) = elim (passed_one l.from (words_of ends) l.left v c.from c.left below to) [ inl own ↦ inl (now_own v own) | inr still ↦ inr still ]
+
+  pub covers_round : l.is_owed ≡ true → Covers ends l g → Covers ends (past_bits ends l) g
+  covers_round owed c = record {
+    few = c.few;
+    owed = λ none. true_is_not_false (sym owed ∙ none);
+    from = new_from;
+    left = omega arith;
+    found = c.found;
+    passed = λ owed v below. inr (all_to_pass (64 * next_in (words_of ends) (word_at l)) (words_of ends) v new_from below);
+  }
+    where
+      new_from : 64 * next_in (words_of ends) (word_at l) < 64 * words_of ends
+      new_from = let below = c.from in let n = next_below (words_of ends) (word_at l) (omega (arith, below)) in omega (arith, n)
+
+  pub covers_finding : (k : ℕ) → k < large_seats → Covers ends l g → Covers ends (finding k l) g
+  covers_finding k small c = record { few = c.few; owed = c.owed; from = c.from; left = c.left; found = small; passed = c.passed }
+
+  pub covers_retrying : Covers ends l g → Covers ends (retrying l) g
+  covers_retrying c = record { few = c.few; owed = c.owed; from = c.from; left = c.left; found = tt; passed = c.passed }
+
+  less_of_one : (n : ℕ) → n ≤ 1 → less n ≡ 0
+  less_of_one n few = grind (arith, common_steps)
+
+  pub covers_done : (k : ℕ) → Covers ends l g → Covers ends (done_at ends k l) (record g { looks = less g.looks })
+  covers_done k c = record {
+    few = (let none = less_of_one g.looks c.few in omega (arith, none));
+    owed = λ none. less_of_one g.looks c.few;
+    from = next_from ends k c.from;
+    left = c.left;
+    found = tt;
+    passed = λ owed. true_is_not_false (sym owed);
+  }
+    where
+      next_from : (n k : ℕ) → l.from < 64 * words_of ends → next_in ends k < 64 * words_of ends
+      next_from n k below = grind (arith, nat_tests)

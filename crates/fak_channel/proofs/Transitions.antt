@@ -1,0 +1,479 @@
+-- Each step of a call leaves the standing of its seat in agreement with its account.
+use Rattle.std.proofs.Common.{◌≡◌, ◌≢◌, ◌⊎◌, ℕ, ◌+◌, ◌*◌, ◌/◌, ◌%◌, ◌<◌, ◌≤◌, Bool, true, false, refl, ap, sym, ◌∙◌, subst, inl, inr, arith, List, [], ◌∷◌, Option, Some, None, IfSome, reverse, if◌then◌else◌}
+use Rattle.fak_model.specs.Limits.{large_seats}
+use Rattle.fak_model.specs.declared.note.NoteKind.{NoteKind}
+use Rattle.fak_model.specs.declared.note.NoteKind.TheVariants.{AsSender, AsReceiver, Checks}
+use Rattle.fak_model.specs.declared.note.Sign.TheVariants.{Registers, FindsNoItem, FallsAsleep, IsWoken, TakesBack, PassesWord, WakesEnd}
+use Rattle.fak_model.specs.declared.queue.Kind.{Kind}
+use Rattle.fak_model.specs.declared.queue.Kind.TheVariants as made
+use Rattle.fak_model.specs.declared.queue.Mark.{Mark}
+use Rattle.fak_model.specs.Calls.{SeatInfo}
+use Rattle.fak_channel_core.specs.SleeperSides.{SleepStage, Awake, Registered, PastLower, Asleep, Woken, tried_stage, owes_look, tried}
+use Rattle.fak_channel_core.specs.SleeperMoves.{Account, after_note}
+use Rattle.fak_queue.specs.Accounts.{AreWithin, after_kinds}
+use Rattle.fak_queue.specs.Queues.{Makes, RefusesFull, RefusesClosed, RefusesEmpty, ShutsAs, drawn_by, state_of}
+use Rattle.fak_queue.specs.SleeperRest.{marks_by}
+use Rattle.fak_queue.specs.Sleepers.{as_role}
+use Rattle.fak_queue.specs.declared.role.Role.{Role}
+use Rattle.fak_queue.specs.declared.role.Role.TheVariants.{Sender, Receiver}
+use Rattle.fak_queue.specs.declared.state.SeatState.TheVariants as at
+use Rattle.fak_channel.specs.SleeperSeats.{SleeperInfo, account_of_seat, AddsNote, AddsNoNote}
+use Rattle.fak_channel.specs.declared.channel.Channel.{Channel}
+use Rattle.fak_channel.specs.declared.seat.ChannelSeat.{ChannelSeat}
+use Rattle.fak_channel.specs.declared.standing.CallStanding.{CallStanding}
+use Rattle.fak_channel.specs.declared.standing.ChannelStep.{ChannelStep}
+use Rattle.fak_channel.specs.declared.standing.ChannelStep.TheVariants.{GoesOn, NotYet, Sleeps, Wakes, Ends}
+use Rattle.fak_channel.specs.declared.standing.Looks.{Looks}
+use Rattle.fak_channel.specs.declared.standing.Next.{Next}
+use Rattle.fak_channel.specs.declared.standing.Next.TheVariants.{Idle, Claiming, Inserting, Deleting, Checking, Registering, Testing, TestingDrained, TakingBack, Sleeping, Refusing, Refused, Shutting, Ending}
+use Rattle.fak_channel.specs.declared.standing.Outcome.TheVariants as outcome
+use Rattle.fak_channel.specs.declared.standing.Wish.{Wish}
+use Rattle.fak_channel.specs.declared.standing.Wish.TheVariants.{Send, Receive}
+use Rattle.fak_channel.specs.Looks.{words_of, word_at, owing, past_word, past_bits, finding, retrying, done_at, Covers}
+use Rattle.fak_channel.specs.Standings.{IsStepSeatOf, StandsSo, StandsClear, StandsOwing, StandsChecking, OwesNone, Pays, ChecksIf, MayClaim, HasTicket, IsIdle, IsInserting, IsDeleting, IsUp, HasSet, IsAwake, StageFor, StagesAre, role_of, ticket_in, call_state, IsInCall, IsAsleep}
+use Rattle.fak_channel.specs.Moves
+use Rattle.fak_channel.proofs.Covering.{covers_same, covers_owing, covers_past, covers_round, covers_finding, covers_retrying, covers_done}
+use Rattle.fak_channel.proofs.Debts.{account_called, within_called, account_signed, within_signed, account_heard, within_heard}
+
+-- ---- plain facts
+
+less_same : {a b : ℕ} (d e : ℕ) → a < b → d ≡ a → e ≡ b → d < e
+less_same d e less one two = omega (arith, less, one, two)
+
+not_both : {A : Type 0} {b : Bool} → b ≡ true → b ≡ false → A
+not_both {A} {b} yes none = absurd (let f : true ≡ false = sym yes ∙ none in cc)
+
+small_name : (k from words ends : ℕ) → ends ≤ large_seats → words ≡ (ends + 63) / 64 → from < 64 * words → k / 64 ≡ from / 64 → k < large_seats
+small_name k from words ends few are below same = omega (arith, few, are, below, same)
+
+-- ---- the queue's part
+
+module _ {T : Type 0} {size : ℕ} {old new : SleeperInfo T} where
+  stint_same : {kinds : List (Kind T)} → Makes size kinds old.seat new.seat → new.seat.stint ≡ old.seat.stint
+  stint_same makes = ap (λ (s : SeatInfo (Mark T)). s.stint) makes.same_seat
+
+  -- a step on the bits
+  may_still : SameSeat old new → Makes size [] old.seat new.seat → MayClaim old → MayClaim new
+  may_still same makes may = record { idle = same.state ∙ may.idle; ticket = less_same (drawn_by new.seat) new.seat.stint may.ticket same.drawn (stint_same makes) }
+
+  -- a refused claim
+  may_again : {kinds : List (Kind T)} → WasRefused old new → Makes size kinds old.seat new.seat → MayClaim new
+  may_again was makes = record { idle = was.idle; ticket = less_same (drawn_by new.seat) new.seat.stint was.within was.drawn (stint_same makes) }
+
+-- ---- what comes next, while a debt is paid
+
+-- only states that may owe something can have a debt
+owing_next : {T : Type 0} (n : Next T) {s s' : CallStanding T} {q q' : SleeperInfo T} {g g' : Account} → (OwesNone s → ⊥) → (s.checks ≡ false → s'.checks ≡ false) → (ChecksIf s g → ChecksIf s' g') → (MayClaim q → MayClaim q') → state_of q'.seat ≡ state_of q.seat
+    → (IsAwake g → IsAwake g') → StandsSo n s q g → StandsSo n s' q' g'
+owing_next Idle owes free if may same up h = absurd (owes h.none)
+owing_next (Claiming w) owes free if may same up h = absurd (owes h.none)
+owing_next Inserting owes free if may same up h = absurd (owes h.none)
+owing_next Deleting owes free if may same up h = absurd (owes h.none)
+owing_next Checking owes free if may same up h = record { queue = may h.queue; none = free h.none; stages = up h.stages }
+owing_next (Registering w) owes free if may same up h = record { queue = may h.queue; checks = if h.checks; stages = up h.stages }
+owing_next (Testing w) owes free if may same up h = absurd (owes h.none)
+owing_next TestingDrained owes free if may same up h = absurd (owes h.none)
+owing_next (TakingBack w) owes free if may same up h = absurd (owes h.none)
+owing_next (Sleeping w) owes free if may same up h = absurd (owes h.none)
+owing_next (Refusing w) owes free if may same up h = record { queue = may h.queue; checks = if h.checks; stages = up h.stages }
+owing_next (Refused w) owes free if may same up h = absurd (owes h.none)
+owing_next Shutting owes free if may same up h = absurd (owes h.none)
+owing_next (Ending o) owes free if may same up h = record { queue = same ∙ h.queue; checks = if h.checks; stages = up h.stages }
+
+-- with nothing owed, a standing that may owe something owes nothing
+module _ {T : Type 0} (c : Channel T) {old new : ChannelSeat T} (S : IsStepSeatOf c old) where
+  n : ℕ
+  n = c.ends
+
+  s : CallStanding T
+  s = old.standing
+
+  g : Account
+  g = account_of_seat n old.queue
+
+  -- the new standing agrees with the new account
+  put : (after : CallStanding T) (h : Account) → new.standing ≡ after → new.queue.seat.object ≡ old.queue.seat.object → AreWithin new.queue.notes (marks_by new.queue.seat) → account_of_seat n new.queue ≡ h
+      → Covers n after.senders h.sender → Covers n after.receivers h.receiver → StandsSo after.next after new.queue h → IsStepSeatOf c new
+  put after h stands object within account senders receivers next = record {
+    object = object ∙ S.object;
+    ends = S.ends;
+    few = S.few;
+    within = within;
+    pays = subst (λ (t : CallStanding T). Pays n t (account_of_seat n new.queue)) (sym stands) (subst (Pays n after) (sym account) (record { senders = senders; receivers = receivers }));
+    next = subst (λ (t : CallStanding T). StandsSo t.next t new.queue (account_of_seat n new.queue)) (sym stands) (subst (StandsSo after.next after new.queue) (sym account) next);
+  }
+
+  put_signed : {size : ℕ} (kind : NoteKind) → Signs size kind old.queue new.queue → (after : CallStanding T) → new.standing ≡ after → Covers n after.senders (after_note n kind g).sender → Covers n after.receivers (after_note n kind g).receiver
+      → StandsSo after.next after new.queue (after_note n kind g) → IsStepSeatOf c new
+  put_signed kind signs after stands senders receivers next =
+      put after (after_note n kind g) stands signs.same.object (within_signed n kind signs.adds) (account_signed n kind signs.adds) senders receivers next
+
+  put_heard : {size : ℕ} → Hears size old.queue new.queue → (after : CallStanding T) → new.standing ≡ after → Covers n after.senders g.sender → Covers n after.receivers g.receiver → StandsSo after.next after new.queue g → IsStepSeatOf c new
+  put_heard hears after stands senders receivers next =
+      put after g stands hears.same.object (within_heard n hears.adds S.within) (account_heard n hears.adds S.within) senders receivers next
+
+  put_called : {size : ℕ} (kinds : List (Kind T)) → Calls old.queue new.queue → Makes size kinds old.queue.seat new.queue.seat → (after : CallStanding T) → new.standing ≡ after → Covers n after.senders (after_kinds n (reverse kinds) g).sender → Covers n after.receivers (after_kinds n (reverse kinds) g).receiver
+      → StandsSo after.next after new.queue (after_kinds n (reverse kinds) g) → IsStepSeatOf c new
+  put_called kinds calls makes after stands senders receivers next =
+      put after (after_kinds n (reverse kinds) g) stands calls.object (within_called n kinds makes calls.notes S.within) (account_called n kinds makes calls.notes S.within) senders receivers next
+
+  -- ---- looks
+
+  may_hear : {size : ℕ} → Hears size old.queue new.queue → MayClaim old.queue → MayClaim new.queue
+  may_hear hears may = may_still hears.same hears.adds.makes may
+
+  may_sign : {size : ℕ} {kind : NoteKind} → Signs size kind old.queue new.queue → MayClaim old.queue → MayClaim new.queue
+  may_sign signs may = may_still signs.same signs.adds.makes may
+
+  small_found : (l : Looks) (d : _) (k : ℕ) → Covers n l d → k / 64 ≡ word_at l → k < large_seats
+  small_found l d k covers same = small_name k l.from (words_of n) n S.few refl covers.from same
+
+  looked : {size : ℕ} (role : Role) → (looks_for role s).is_owed ≡ true → LoadsWord n size role (looks_for role s) old new → IsStepSeatOf c new
+  looked Sender owed (passes signs stands) =
+      put_signed (AsSender (PassesWord (word_at s.senders))) signs (record s { senders = past_word n s.senders }) stands (covers_past owed S.pays.senders) S.pays.receivers
+      (owing_next s.next (λ o. not_both owed o.senders) (λ e. e) (λ e. e) (may_sign signs) signs.same.state (λ up. record { sender = up.sender; receiver = up.receiver }) S.next)
+  looked Sender owed (goes_round hears some stands) =
+      put_heard hears (record s { senders = past_bits n s.senders }) stands (covers_round owed S.pays.senders) S.pays.receivers (owing_next s.next (λ o. not_both owed o.senders) (λ e. e) (λ e. e) (may_hear hears) hears.same.state (λ up. up) S.next)
+  looked Sender owed (finds k hears same some stands) =
+      put_heard hears (record s { senders = finding k s.senders }) stands (covers_finding k (small_found s.senders g.sender k S.pays.senders same) S.pays.senders) S.pays.receivers
+      (owing_next s.next (λ o. not_both owed o.senders) (λ e. e) (λ e. e) (may_hear hears) hears.same.state (λ up. up) S.next)
+  looked Receiver owed (passes signs stands) =
+      put_signed (AsReceiver (PassesWord (word_at s.receivers))) signs (record s { receivers = past_word n s.receivers }) stands S.pays.senders (covers_past owed S.pays.receivers)
+      (owing_next s.next (λ o. not_both owed o.receivers) (λ e. e) (λ e. e) (may_sign signs) signs.same.state (λ up. record { sender = up.sender; receiver = up.receiver }) S.next)
+  looked Receiver owed (goes_round hears some stands) =
+      put_heard hears (record s { receivers = past_bits n s.receivers }) stands S.pays.senders (covers_round owed S.pays.receivers) (owing_next s.next (λ o. not_both owed o.receivers) (λ e. e) (λ e. e) (may_hear hears) hears.same.state (λ up. up) S.next)
+  looked Receiver owed (finds k hears same some stands) =
+      put_heard hears (record s { receivers = finding k s.receivers }) stands S.pays.senders (covers_finding k (small_found s.receivers g.receiver k S.pays.receivers same) S.pays.receivers)
+      (owing_next s.next (λ o. not_both owed o.receivers) (λ e. e) (λ e. e) (may_hear hears) hears.same.state (λ up. up) S.next)
+
+  woke : {size : ℕ} (role : Role) (k : ℕ) → (looks_for role s).is_owed ≡ true → Signs size (as_role role (WakesEnd k)) old.queue new.queue → new.standing ≡ with_looks role (done_at n k (looks_for role s)) s → IsStepSeatOf c new
+  woke Sender k owed signs stands =
+      put_signed (AsSender (WakesEnd k)) signs (record s { senders = done_at n k s.senders }) stands (covers_done k S.pays.senders) S.pays.receivers
+      (owing_next s.next (λ o. not_both owed o.senders) (λ e. e) (λ e. e) (may_sign signs) signs.same.state (λ up. record { sender = up.sender; receiver = up.receiver }) S.next)
+  woke Receiver k owed signs stands =
+      put_signed (AsReceiver (WakesEnd k)) signs (record s { receivers = done_at n k s.receivers }) stands S.pays.senders (covers_done k S.pays.receivers)
+      (owing_next s.next (λ o. not_both owed o.receivers) (λ e. e) (λ e. e) (may_sign signs) signs.same.state (λ up. record { sender = up.sender; receiver = up.receiver }) S.next)
+
+  retried : {size : ℕ} (role : Role) → (looks_for role s).is_owed ≡ true → Hears size old.queue new.queue → new.standing ≡ with_looks role (retrying (looks_for role s)) s → IsStepSeatOf c new
+  retried Sender owed hears stands =
+      put_heard hears (record s { senders = retrying s.senders }) stands (covers_retrying S.pays.senders) S.pays.receivers (owing_next s.next (λ o. not_both owed o.senders) (λ e. e) (λ e. e) (may_hear hears) hears.same.state (λ up. up) S.next)
+  retried Receiver owed hears stands =
+      put_heard hears (record s { receivers = retrying s.receivers }) stands S.pays.senders (covers_retrying S.pays.receivers) (owing_next s.next (λ o. not_both owed o.receivers) (λ e. e) (λ e. e) (may_hear hears) hears.same.state (λ up. up) S.next)
+
+  cleared : {size : ℕ} (role : Role) (k : ℕ) (r : ChannelStep T) → (looks_for role s).is_owed ≡ true → ClearsBit n size role (looks_for role s) old new k r → IsStepSeatOf c new
+  cleared role k GoesOn owed m = retried role owed m.0 m.1
+  cleared role k NotYet owed m = absurd m
+  cleared role k Sleeps owed m = absurd m
+  cleared role k (Wakes number) owed m = woke role k owed m.1 m.2
+  cleared role k (Ends o) owed m = absurd m
+
+  looks_once : {size : ℕ} (role : Role) (found : Option ℕ) (r : ChannelStep T) → (looks_for role s).is_owed ≡ true → LooksOnce n size role (looks_for role s) old new found r → IsStepSeatOf c new
+  looks_once role None GoesOn owed m = looked role owed m
+  looks_once role None NotYet owed m = absurd m
+  looks_once role None Sleeps owed m = absurd m
+  looks_once role None (Wakes number) owed m = absurd m
+  looks_once role None (Ends o) owed m = absurd m
+  looks_once role (Some k) r owed m = cleared role k r owed m
+
+  -- ---- a check that is owed
+
+  few_owed : {looks : ℕ} → looks ≡ 0 → looks + 1 ≤ 1
+  few_owed none = omega (arith, none)
+
+  paid_check : (drained : Bool) {size : ℕ} → s.receivers.is_owed ≡ false → s.checks ≡ true → Signs size (Checks drained) old.queue new.queue → new.standing ≡ checked n drained s → IsStepSeatOf c new
+  paid_check true none owed signs stands =
+      put_signed (Checks true) signs (checked n true s) stands S.pays.senders (covers_owing (owes_look g.receiver) (few_owed (S.pays.receivers.owed none)) S.pays.receivers)
+      (owing_next s.next (λ o. not_both owed o.checks) (λ e. refl) (λ e f. refl) (may_sign signs) signs.same.state (λ up. record { sender = up.sender; receiver = up.receiver }) S.next)
+  paid_check false none owed signs stands =
+      put_signed (Checks false) signs (checked n false s) stands S.pays.senders S.pays.receivers
+      (owing_next s.next (λ o. not_both owed o.checks) (λ e. refl) (λ e f. refl) (may_sign signs) signs.same.state (λ up. record { sender = up.sender; receiver = up.receiver }) S.next)
+
+  -- ---- claims
+
+  none_still : (next : Next T) → OwesNone s → OwesNone (with_next next s)
+  none_still next o = record { senders = o.senders; receivers = o.receivers; checks = o.checks }
+
+  module _ (none : OwesNone s) where
+    no_sender : g.sender.looks ≡ 0
+    no_sender = S.pays.senders.owed none.senders
+
+    no_receiver : g.receiver.looks ≡ 0
+    no_receiver = S.pays.receivers.owed none.receivers
+
+    one_at_most : {looks : ℕ} → looks ≡ 0 → looks ≤ 1
+    one_at_most zero_is = omega (arith, zero_is)
+
+    -- a refused claim of room: a try ends, and another call sets its bit
+    refused_stands : (w : Wish T) (h : Account) → MayClaim new.queue → IsAwake h → StandsSo (refused_next s w) (with_next (refused_next s w) (room_made n s)) new.queue h
+    refused_stands w h may up = by s.tries
+      where
+        by : (tries : Bool) → StandsSo (if tries then Refusing w else Registering w) (with_next (if tries then Refusing w else Registering w) (room_made n s)) new.queue h
+        by true = record { queue = may; checks = λ e. not_both refl e; stages = up }
+        by false = record { queue = may; checks = λ e. not_both refl e; stages = up }
+
+    room_refused : {size : ℕ} (kinds : List (Kind T)) (next : Next T) → WasRefused old.queue new.queue → Makes size kinds old.queue.seat new.queue.seat → new.standing ≡ with_next next (room_made n s)
+        → (after_kinds n (reverse kinds) g).sender.looks ≤ 1 → (after_kinds n (reverse kinds) g).receiver.looks ≡ g.receiver.looks → (after_kinds n (reverse kinds) g).receiver.passed ≡ g.receiver.passed
+        → StandsSo next (with_next next (room_made n s)) new.queue (after_kinds n (reverse kinds) g) → IsStepSeatOf c new
+    room_refused kinds next was makes stands few looks passed next_so =
+        put_called kinds was.calls makes (with_next next (room_made n s)) stands (covers_owing (after_kinds n (reverse kinds) g).sender few S.pays.senders) (covers_same (after_kinds n (reverse kinds) g).receiver looks passed S.pays.receivers) next_so
+
+    module _ (x : T) (up : IsUp (Send x) g) where
+      sender_tried : tried_stage g.sender.stage ≡ Awake
+      sender_tried = elim up [ inl a ↦ ap tried_stage a.sender | inr a ↦ ap tried_stage a.sender ]
+
+      receiver_up : g.receiver.stage ≡ Awake
+      receiver_up = elim up [ inl a ↦ a.receiver | inr a ↦ a.receiver ]
+
+      claimed_room : ChecksIf s g → ClaimsRoom c old new x → IsStepSeatOf c new
+      claimed_room free (room_granted k calls state claims stands) =
+          put_called (made.ClaimIn ∷ made.Put x ∷ []) calls claims.makes (with_next Inserting s) stands (covers_same (tried g.sender) refl refl S.pays.senders) (covers_same g.receiver refl refl S.pays.receivers)
+          (record { queue = state ∙ ap at.Inserting (sym (ap ticket_in state)); none = none_still Inserting none; checks = free; stages = record { sender = sender_tried; receiver = receiver_up } })
+      claimed_room free (found_full upper was refuses stands) = by refuses.makes
+        where
+          by : Makes c.queue.size (made.NoRoom ∷ []) old.queue.seat new.queue.seat ⊎ Makes c.queue.size (made.OverIn ∷ made.BackIn ∷ []) old.queue.seat new.queue.seat → IsStepSeatOf c new
+          by (inl m) =
+              room_refused (made.NoRoom ∷ []) (refused_next s (Send x)) was m stands (one_at_most no_sender) refl refl
+              (refused_stands (Send x) (after_kinds n (reverse (made.NoRoom ∷ [])) g) (may_again was m) (record { sender = sender_tried; receiver = receiver_up }))
+          by (inr m) =
+              room_refused (made.OverIn ∷ made.BackIn ∷ []) (refused_next s (Send x)) was m stands (few_owed no_sender) refl refl
+              (refused_stands (Send x) (after_kinds n (reverse (made.OverIn ∷ made.BackIn ∷ [])) g) (may_again was m) (record { sender = sender_tried; receiver = receiver_up }))
+      claimed_room free (found_closed was refuses stands) = by refuses
+        where
+          by : Makes c.queue.size (made.Closed ∷ []) old.queue.seat new.queue.seat ⊎ Makes c.queue.size (made.LateIn ∷ made.BackIn ∷ []) old.queue.seat new.queue.seat → IsStepSeatOf c new
+          by (inl m) =
+              room_refused (made.Closed ∷ []) (Ending (outcome.Refused x)) was m stands (few_owed no_sender) refl refl
+              (record { queue = was.idle; checks = λ e. not_both refl e; stages = record { sender = sender_tried; receiver = receiver_up } })
+          by (inr m) =
+              room_refused (made.LateIn ∷ made.BackIn ∷ []) (Ending (outcome.Refused x)) was m stands (few_owed no_sender) refl refl
+              (record { queue = was.idle; checks = λ e. not_both refl e; stages = record { sender = sender_tried; receiver = receiver_up } })
+
+    module _ (up : IsUp Receive g) where
+      receiver_tried : tried_stage g.receiver.stage ≡ Awake
+      receiver_tried = elim up [ inl a ↦ ap tried_stage a.receiver | inr a ↦ ap tried_stage a.receiver ]
+
+      sender_up : g.sender.stage ≡ Awake
+      sender_up = elim up [ inl a ↦ a.sender | inr a ↦ a.sender ]
+
+      item_refused : {size : ℕ} (kinds : List (Kind T)) → WasRefused old.queue new.queue → Makes size kinds old.queue.seat new.queue.seat → new.standing ≡ with_next Checking (item_made n s) → (after_kinds n (reverse kinds) g).receiver.looks ≤ 1
+          → (after_kinds n (reverse kinds) g).sender.looks ≡ g.sender.looks → (after_kinds n (reverse kinds) g).sender.passed ≡ g.sender.passed → IsAwake (after_kinds n (reverse kinds) g) → IsStepSeatOf c new
+      item_refused kinds was makes stands few looks passed awake =
+          put_called kinds was.calls makes (with_next Checking (item_made n s)) stands (covers_same (after_kinds n (reverse kinds) g).sender looks passed S.pays.senders) (covers_owing (after_kinds n (reverse kinds) g).receiver few S.pays.receivers)
+          (record { queue = may_again was makes; none = none.checks; stages = awake })
+
+      claimed_item : ChecksIf s g → ClaimsItem c old new → IsStepSeatOf c new
+      claimed_item free (item_granted k calls state claims stands) =
+          put_called (made.ClaimOut ∷ made.Got claims.item ∷ []) calls claims.makes (with_next Deleting s) stands (covers_same g.sender refl refl S.pays.senders) (covers_same (tried g.receiver) refl refl S.pays.receivers)
+          (record { queue = state ∙ ap at.Deleting (sym (ap ticket_in state)); none = none_still Deleting none; checks = free; stages = record { sender = sender_up; receiver = receiver_tried } })
+      claimed_item free (found_empty lower was refuses stands) = by refuses.makes
+        where
+          by : Makes c.queue.size (made.NoItem ∷ []) old.queue.seat new.queue.seat ⊎ Makes c.queue.size (made.OverOut ∷ made.BackOut ∷ []) old.queue.seat new.queue.seat → IsStepSeatOf c new
+          by (inl m) = item_refused (made.NoItem ∷ []) was m stands (one_at_most no_receiver) refl refl (record { sender = sender_up; receiver = receiver_tried })
+          by (inr m) = item_refused (made.OverOut ∷ made.BackOut ∷ []) was m stands (few_owed no_receiver) refl refl (record { sender = sender_up; receiver = receiver_tried })
+
+    -- ---- the rest of a granted call
+
+    filled : IsAwake g → ChecksIf s g → FillsCell c old new → IsStepSeatOf c new
+    filled up free m =
+        put_called (made.Fill (ticket_in (state_of old.queue.seat)) ∷ made.EndIn ∷ []) m.calls m.fills (with_next (Ending outcome.Sent) (item_made n s)) m.stands (covers_same g.sender refl refl S.pays.senders)
+        (covers_owing (owes_look g.receiver) (few_owed no_receiver) S.pays.receivers) (record { queue = m.idle; checks = free; stages = record { sender = up.sender; receiver = up.receiver } })
+
+    waits_for_room : IsAwake g → ChecksIf s g → IsInserting old.queue → s.next ≡ Inserting → WaitsForRoom c old new → IsStepSeatOf c new
+    waits_for_room up free at_cell is m =
+        put_called [] m.calls m.waits.makes s m.stands S.pays.senders S.pays.receivers
+        (subst (λ (x : Next T). StandsSo x s new.queue g) (sym is) (record { queue = m.same ∙ (at_cell ∙ ap at.Inserting (ap ticket_in (sym m.same))); none = none; checks = free; stages = up }))
+
+    taken : IsAwake g → TakesItem c old new → IsStepSeatOf c new
+    taken up m =
+        put_called (made.Take (ticket_in (state_of old.queue.seat)) ∷ made.EndOut ∷ []) m.calls m.takes.makes (with_next (Ending (outcome.Received m.item)) (room_made n s)) m.stands (covers_owing (owes_look g.sender) (few_owed no_sender) S.pays.senders)
+        (covers_same g.receiver refl refl S.pays.receivers) (record { queue = m.idle; checks = λ e. not_both refl e; stages = record { sender = up.sender; receiver = up.receiver } })
+
+    waits_for_item : IsAwake g → ChecksIf s g → IsDeleting old.queue → s.next ≡ Deleting → WaitsForItem c old new → IsStepSeatOf c new
+    waits_for_item up free at_cell is m =
+        put_called [] m.calls m.waits.makes s m.stands S.pays.senders S.pays.receivers
+        (subst (λ (x : Next T). StandsSo x s new.queue g) (sym is) (record { queue = m.same ∙ (at_cell ∙ ap at.Deleting (ap ticket_in (sym m.same))); none = none; checks = free; stages = up }))
+
+    shut_down : IsAwake g → ShutsQueue c old new → IsStepSeatOf c new
+    shut_down up m =
+        put_called (made.Close ∷ []) m.calls (makes m.was_open m.shuts) (with_next (Ending (if m.was_open then outcome.Closed else outcome.WasClosed)) (room_made n s)) m.stands (covers_owing (owes_look g.sender) (few_owed no_sender) S.pays.senders)
+        (covers_same g.receiver refl refl S.pays.receivers) (record { queue = m.idle; checks = λ e. not_both refl e; stages = record { sender = up.sender; receiver = up.receiver } })
+      where
+        makes : (was_open : Bool) → ShutsAs c.queue.size was_open old.queue.seat new.queue.seat → Makes c.queue.size (made.Close ∷ []) old.queue.seat new.queue.seat
+        makes true h = h.0
+        makes false h = h.0
+
+    -- ---- on the way to sleep
+
+    tested_room : (x : T) → MayClaim old.queue → ChecksIf s g → StageFor (Send x) Registered g → TestsRoom c old new x → IsStepSeatOf c new
+    tested_room x may free stage (sender_sleeps signs full open stands) =
+        put_signed (AsSender FallsAsleep) signs (with_next (Sleeping (Send x)) s) stands (covers_same (after_note n (AsSender FallsAsleep) g).sender refl refl S.pays.senders) S.pays.receivers
+        (record { queue = may_sign signs may; none = none_still (Sleeping (Send x)) none; checks = free; stages = record { sender = refl; receiver = stage.receiver } })
+    tested_room x may free stage (room_came hears why stands) =
+        put_heard hears (with_next (TakingBack (Send x)) s) stands S.pays.senders S.pays.receivers (record { queue = may_hear hears may; none = none_still (TakingBack (Send x)) none; checks = free; stages = inl stage })
+
+    tested_item : MayClaim old.queue → ChecksIf s g → StageFor Receive Registered g → TestsItem c old new → IsStepSeatOf c new
+    tested_item may free stage (no_item_yet signs empty stands) =
+        put_signed (AsReceiver FindsNoItem) signs (with_next TestingDrained s) stands S.pays.senders (covers_same (after_note n (AsReceiver FindsNoItem) g).receiver refl refl S.pays.receivers)
+        (record { queue = may_sign signs may; none = none_still TestingDrained none; checks = free; stages = record { sender = stage.sender; receiver = refl } })
+    tested_item may free stage (item_came hears why stands) =
+        put_heard hears (with_next (TakingBack Receive) s) stands S.pays.senders S.pays.receivers (record { queue = may_hear hears may; none = none_still (TakingBack Receive) none; checks = free; stages = inl stage })
+
+    tested_drained : MayClaim old.queue → ChecksIf s g → StagesAre Awake PastLower g → TestsDrained c old new → IsStepSeatOf c new
+    tested_drained may free stage (receiver_sleeps signs undrained stands) =
+        put_signed (AsReceiver FallsAsleep) signs (with_next (Sleeping Receive) s) stands S.pays.senders (covers_same (after_note n (AsReceiver FallsAsleep) g).receiver refl refl S.pays.receivers)
+        (record { queue = may_sign signs may; none = none_still (Sleeping Receive) none; checks = free; stages = record { sender = stage.sender; receiver = refl } })
+    tested_drained may free stage (drained_meanwhile hears why stands) =
+        put_heard hears (with_next (TakingBack Receive) s) stands S.pays.senders S.pays.receivers (record { queue = may_hear hears may; none = none_still (TakingBack Receive) none; checks = free; stages = inr stage })
+
+    -- the other role is awake
+    OtherAwake : Wish T → Type 0
+    OtherAwake (Send x) = g.receiver.stage ≡ Awake
+    OtherAwake Receive = g.sender.stage ≡ Awake
+
+    other_awake : (w : Wish T) {stage : SleepStage} → StageFor w stage g → OtherAwake w
+    other_awake (Send x) h = h.receiver
+    other_awake Receive h = h.sender
+
+    claims_again : (w : Wish T) {size : ℕ} → MayClaim old.queue → ChecksIf s g → OtherAwake w → (was_set : Bool) → TakesBackOr size (role_of w) was_set old.queue new.queue → new.standing ≡ with_next (Claiming w) s → IsStepSeatOf c new
+    claims_again (Send x) may free other true signs stands =
+        put_signed (AsSender TakesBack) signs (with_next (Claiming (Send x)) s) stands (covers_same (after_note n (AsSender TakesBack) g).sender refl refl S.pays.senders) S.pays.receivers
+        (record { queue = may_sign signs may; none = none_still (Claiming (Send x)) none; checks = free; stages = inl (record { sender = refl; receiver = other }) })
+    claims_again (Send x) may free other false signs stands =
+        put_signed (AsSender IsWoken) signs (with_next (Claiming (Send x)) s) stands (covers_same (after_note n (AsSender IsWoken) g).sender refl refl S.pays.senders) S.pays.receivers
+        (record { queue = may_sign signs may; none = none_still (Claiming (Send x)) none; checks = free; stages = inr (record { sender = refl; receiver = other }) })
+    claims_again Receive may free other true signs stands =
+        put_signed (AsReceiver TakesBack) signs (with_next (Claiming Receive) s) stands S.pays.senders (covers_same (after_note n (AsReceiver TakesBack) g).receiver refl refl S.pays.receivers)
+        (record { queue = may_sign signs may; none = none_still (Claiming Receive) none; checks = free; stages = inl (record { sender = other; receiver = refl }) })
+    claims_again Receive may free other false signs stands =
+        put_signed (AsReceiver IsWoken) signs (with_next (Claiming Receive) s) stands S.pays.senders (covers_same (after_note n (AsReceiver IsWoken) g).receiver refl refl S.pays.receivers)
+        (record { queue = may_sign signs may; none = none_still (Claiming Receive) none; checks = free; stages = inr (record { sender = other; receiver = refl }) })
+
+    own_cleared : (w : Wish T) → MayClaim old.queue → ChecksIf s g → HasSet w g → ClearsOwn c old new w → IsStepSeatOf c new
+    own_cleared w may free (inl stage) m = claims_again w may free (other_awake w stage) m.was_set m.takes m.stands
+    own_cleared w may free (inr stage) m = claims_again w may free (other_awake w stage) m.was_set m.takes m.stands
+
+    registered : (w : Wish T) → MayClaim old.queue → ChecksIf s g → IsAwake g → SetsBit c old new w → IsStepSeatOf c new
+    registered (Send x) may free up m =
+        put_signed (AsSender Registers) m.signs (with_next (Testing (Send x)) s) m.stands (covers_same (after_note n (AsSender Registers) g).sender refl refl S.pays.senders) S.pays.receivers
+        (record { queue = may_sign m.signs may; none = none_still (Testing (Send x)) none; checks = free; stages = record { sender = refl; receiver = up.receiver } })
+    registered Receive may free up m =
+        put_signed (AsReceiver Registers) m.signs (with_next (Testing Receive) s) m.stands S.pays.senders (covers_same (after_note n (AsReceiver Registers) g).receiver refl refl S.pays.receivers)
+        (record { queue = may_sign m.signs may; none = none_still (Testing Receive) none; checks = free; stages = record { sender = up.sender; receiver = refl } })
+
+    still_set : (w : Wish T) → MayClaim old.queue → ChecksIf s g → StageFor w Asleep g → s.next ≡ Sleeping w → FindsBitSet c old new → IsStepSeatOf c new
+    still_set w may free stage is m =
+        put_heard m.hears s m.stands S.pays.senders S.pays.receivers (subst (λ (x : Next T). StandsSo x s new.queue g) (sym is) (record { queue = may_hear m.hears may; none = none; checks = free; stages = stage }))
+
+    -- a check after a claim that found no item
+    checked_empty : MayClaim old.queue → IsAwake g → ChecksEmpty c old new → IsStepSeatOf c new
+    checked_empty may up (found_drained m stands) =
+        put_signed (Checks true) m.signs (with_next (Ending outcome.Drained) (checked n true s)) stands S.pays.senders (covers_owing (owes_look g.receiver) (few_owed no_receiver) S.pays.receivers)
+        (record { queue = m.signs.same.state ∙ may.idle; checks = λ e. refl; stages = record { sender = up.sender; receiver = up.receiver } })
+    checked_empty may up (found_none m stands) =
+        put_signed (Checks false) m.signs (with_next (refused_next s Receive) (checked n false s)) stands S.pays.senders S.pays.receivers (by s.tries)
+      where
+        by : (tries : Bool) → StandsSo (if tries then Refusing Receive else Registering Receive) (with_next (if tries then Refusing Receive else Registering Receive) (checked n false s)) new.queue (after_note n (Checks false) g)
+        by true = record { queue = may_sign m.signs may; checks = λ e. refl; stages = record { sender = up.sender; receiver = up.receiver } }
+        by false = record { queue = may_sign m.signs may; checks = λ e. refl; stages = record { sender = up.sender; receiver = up.receiver } }
+
+    -- nothing but the standing changes
+    only_stands : (next : Next T) → OnlyStands c old new (with_next next s) → StandsSo next (with_next next s) old.queue g → IsStepSeatOf c new
+    only_stands next m next_so = record {
+      object = ap (λ (q : SleeperInfo T). q.seat.object) m.same ∙ S.object;
+      ends = S.ends;
+      few = S.few;
+      within = subst (λ (q : SleeperInfo T). AreWithin q.notes (marks_by q.seat)) (sym m.same) S.within;
+      pays = subst (λ (t : CallStanding T). Pays n t (account_of_seat n new.queue)) (sym m.stands) (subst (λ (q : SleeperInfo T). Pays n (with_next next s) (account_of_seat n q)) (sym m.same) (record { senders = S.pays.senders; receivers = S.pays.receivers }));
+      next = subst (λ (t : CallStanding T). StandsSo t.next t new.queue (account_of_seat n new.queue)) (sym m.stands) (subst (λ (q : SleeperInfo T). StandsSo next (with_next next s) q (account_of_seat n q)) (sym m.same) next_so);
+    }
+
+    -- the step by what comes next
+    next_moved : (x : Next T) (r : ChannelStep T) → s.next ≡ x → StandsSo x s old.queue g → MovesNext c old new x r → IsStepSeatOf c new
+    next_moved Idle r is h m = absurd m
+    next_moved (Claiming (Send x)) GoesOn is h m = claimed_room x h.stages h.checks m
+    next_moved (Claiming Receive) GoesOn is h m = claimed_item h.stages h.checks m
+    next_moved (Claiming w) NotYet is h m = absurd m
+    next_moved (Claiming w) Sleeps is h m = absurd m
+    next_moved (Claiming w) (Wakes k) is h m = absurd m
+    next_moved (Claiming w) (Ends o) is h m = absurd m
+    next_moved Inserting GoesOn is h m = filled h.stages h.checks m
+    next_moved Inserting NotYet is h m = waits_for_room h.stages h.checks h.queue is m
+    next_moved Inserting Sleeps is h m = absurd m
+    next_moved Inserting (Wakes k) is h m = absurd m
+    next_moved Inserting (Ends o) is h m = absurd m
+    next_moved Deleting GoesOn is h m = taken h.stages m
+    next_moved Deleting NotYet is h m = waits_for_item h.stages h.checks h.queue is m
+    next_moved Deleting Sleeps is h m = absurd m
+    next_moved Deleting (Wakes k) is h m = absurd m
+    next_moved Deleting (Ends o) is h m = absurd m
+    next_moved Checking GoesOn is h m = checked_empty h.queue h.stages m
+    next_moved Checking NotYet is h m = absurd m
+    next_moved Checking Sleeps is h m = absurd m
+    next_moved Checking (Wakes k) is h m = absurd m
+    next_moved Checking (Ends o) is h m = absurd m
+    next_moved (Registering w) GoesOn is h m = registered w h.queue h.checks h.stages m
+    next_moved (Registering w) NotYet is h m = absurd m
+    next_moved (Registering w) Sleeps is h m = absurd m
+    next_moved (Registering w) (Wakes k) is h m = absurd m
+    next_moved (Registering w) (Ends o) is h m = absurd m
+    next_moved (Testing (Send x)) GoesOn is h m = tested_room x h.queue h.checks h.stages m
+    next_moved (Testing Receive) GoesOn is h m = tested_item h.queue h.checks h.stages m
+    next_moved (Testing w) NotYet is h m = absurd m
+    next_moved (Testing w) Sleeps is h m = absurd m
+    next_moved (Testing w) (Wakes k) is h m = absurd m
+    next_moved (Testing w) (Ends o) is h m = absurd m
+    next_moved TestingDrained GoesOn is h m = tested_drained h.queue h.checks h.stages m
+    next_moved TestingDrained NotYet is h m = absurd m
+    next_moved TestingDrained Sleeps is h m = absurd m
+    next_moved TestingDrained (Wakes k) is h m = absurd m
+    next_moved TestingDrained (Ends o) is h m = absurd m
+    next_moved (TakingBack w) GoesOn is h m = own_cleared w h.queue h.checks h.stages m
+    next_moved (TakingBack w) NotYet is h m = absurd m
+    next_moved (TakingBack w) Sleeps is h m = absurd m
+    next_moved (TakingBack w) (Wakes k) is h m = absurd m
+    next_moved (TakingBack w) (Ends o) is h m = absurd m
+    next_moved (Sleeping w) GoesOn is h m = claims_again w h.queue h.checks (other_awake w h.stages) false m.signs m.stands
+    next_moved (Sleeping w) NotYet is h m = absurd m
+    next_moved (Sleeping w) Sleeps is h m = still_set w h.queue h.checks h.stages is m
+    next_moved (Sleeping w) (Wakes k) is h m = absurd m
+    next_moved (Sleeping w) (Ends o) is h m = absurd m
+    next_moved (Refusing w) GoesOn is h m = absurd m
+    next_moved (Refusing w) NotYet is h m = absurd m
+    next_moved (Refusing w) Sleeps is h m = only_stands (Refused w) m (record { queue = h.queue; none = none_still (Refused w) none; checks = h.checks; stages = h.stages })
+    next_moved (Refusing w) (Wakes k) is h m = absurd m
+    next_moved (Refusing w) (Ends o) is h m = absurd m
+    next_moved (Refused w) GoesOn is h m = only_stands (Claiming w) m (record { queue = h.queue; none = none_still (Claiming w) none; checks = h.checks; stages = up_of w h.stages })
+      where
+        up_of : (w : Wish T) → IsAwake g → IsUp w g
+        up_of (Send x) up = inl up
+        up_of Receive up = inl up
+    next_moved (Refused w) NotYet is h m = absurd m
+    next_moved (Refused w) Sleeps is h m = absurd m
+    next_moved (Refused w) (Wakes k) is h m = absurd m
+    next_moved (Refused w) (Ends o) is h m = absurd m
+    next_moved Shutting GoesOn is h m = shut_down h.stages m
+    next_moved Shutting NotYet is h m = absurd m
+    next_moved Shutting Sleeps is h m = absurd m
+    next_moved Shutting (Wakes k) is h m = absurd m
+    next_moved Shutting (Ends o) is h m = absurd m
+    next_moved (Ending o) GoesOn is h m = absurd m
+    next_moved (Ending o) NotYet is h m = absurd m
+    next_moved (Ending o) Sleeps is h m = absurd m
+    next_moved (Ending o) (Wakes k) is h m = absurd m
+    next_moved (Ending o) (Ends p) is h m = only_stands Idle m.1 (record { queue = h.queue; none = none_still Idle none; checks = h.checks; stages = h.stages })
+
+  checked_once : (r : ChannelStep T) → s.receivers.is_owed ≡ false → s.checks ≡ true → ChecksOnce c old new r → IsStepSeatOf c new
+  checked_once GoesOn none owed m = paid_check m.drained none owed m.checks.signs m.stands
+  checked_once NotYet none owed m = absurd m
+  checked_once Sleeps none owed m = absurd m
+  checked_once (Wakes k) none owed m = absurd m
+  checked_once (Ends o) none owed m = absurd m
+
+  -- a step of a call leaves its seat in agreement with its account
+  pub moved_stands : (r : ChannelStep T) → Moves c old new r → IsStepSeatOf c new
+  moved_stands r m = by s.senders.is_owed s.receivers.is_owed s.checks refl refl refl m
+    where
+      by : (a b d : Bool) → s.senders.is_owed ≡ a → s.receivers.is_owed ≡ b → s.checks ≡ d → MovesBy c old new (if a then Look Sender else (if b then Look Receiver else (if d then Check else None_owed))) r → IsStepSeatOf c new
+      by true b d ea eb ed m = looks_once Sender s.senders.found r ea m
+      by false true d ea eb ed m = looks_once Receiver s.receivers.found r eb m
+      by false false true ea eb ed m = checked_once r eb ed m
+      by false false false ea eb ed m = next_moved (record { senders = ea; receivers = eb; checks = ed }) s.next r refl S.next m
