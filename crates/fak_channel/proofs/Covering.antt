@@ -88,10 +88,13 @@ module _ {ends : ℕ} {l : Looks} {g : Duty} where
       few_looks : (b : Bool) → (if b then 0 else g.looks) ≤ 1
       few_looks true = omega arith
       few_looks false = c.few
+
       last : nat_lt 1 l.left ≡ false → l.left ≤ 1
       last is = grind (arith, nat_tests)
+
       some_word : {n : ℕ} → l.from < 64 * n → 0 < n
       some_word less = omega (arith, less)
+
       then_passed : (v : ℕ) → v < words_of ends → (g.passed v ≡ true) ⊎ IsToPass (words_of ends) l v → (now_passed v ≡ true) ⊎ IsToPass (words_of ends) (past_word ends l) v
       then_passed v below (inl was) = inl (now_true v was)
       then_passed v below (inr to) = elim (passed_one l.from (words_of ends) l.left v c.from c.left below to) [ inl own ↦ inl (now_own v own) | inr still ↦ inr still ]

@@ -1,3 +1,4 @@
 pub mod Covering
-pub mod Debts
 pub mod Transitions
+pub mod Marking
+pub mod CallSteps

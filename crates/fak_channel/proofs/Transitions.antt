@@ -7,17 +7,17 @@ use Rattle.fak_model.specs.declared.note.Sign.TheVariants.{Registers, FindsNoIte
 use Rattle.fak_model.specs.declared.queue.Kind.{Kind}
 use Rattle.fak_model.specs.declared.queue.Kind.TheVariants as made
 use Rattle.fak_model.specs.declared.queue.Mark.{Mark}
-use Rattle.fak_model.specs.Calls.{SeatInfo}
+use Rattle.fak_model.specs.Calls.{ObjectId, SeatInfo}
+use Rattle.fak_model.specs.declared.note.Note.{Note}
 use Rattle.fak_channel_core.specs.SleeperSides.{SleepStage, Awake, Registered, PastLower, Asleep, Woken, tried_stage, owes_look, tried}
 use Rattle.fak_channel_core.specs.SleeperMoves.{Account, after_note}
-use Rattle.fak_queue.specs.Accounts.{AreWithin, after_kinds}
+use Rattle.fak_queue.specs.Accounts.{after_kinds}
 use Rattle.fak_queue.specs.Queues.{Makes, RefusesFull, RefusesClosed, RefusesEmpty, ShutsAs, drawn_by, state_of}
-use Rattle.fak_queue.specs.SleeperRest.{marks_by}
 use Rattle.fak_queue.specs.Sleepers.{as_role}
 use Rattle.fak_queue.specs.declared.role.Role.{Role}
 use Rattle.fak_queue.specs.declared.role.Role.TheVariants.{Sender, Receiver}
 use Rattle.fak_queue.specs.declared.state.SeatState.TheVariants as at
-use Rattle.fak_channel.specs.SleeperSeats.{SleeperInfo, account_of_seat, AddsNote, AddsNoNote}
+use Rattle.fak_channel.specs.SleeperSeats.{SleeperInfo, account_of_seat, AddsNote, AddsNoNote, LeavesNoMark, TakesBit, ChecksDrained}
 use Rattle.fak_channel.specs.declared.channel.Channel.{Channel}
 use Rattle.fak_channel.specs.declared.seat.ChannelSeat.{ChannelSeat}
 use Rattle.fak_channel.specs.declared.standing.CallStanding.{CallStanding}
@@ -30,10 +30,9 @@ use Rattle.fak_channel.specs.declared.standing.Outcome.TheVariants as outcome
 use Rattle.fak_channel.specs.declared.standing.Wish.{Wish}
 use Rattle.fak_channel.specs.declared.standing.Wish.TheVariants.{Send, Receive}
 use Rattle.fak_channel.specs.Looks.{words_of, word_at, owing, past_word, past_bits, finding, retrying, done_at, Covers}
-use Rattle.fak_channel.specs.Standings.{IsStepSeatOf, StandsSo, StandsClear, StandsOwing, StandsChecking, OwesNone, Pays, ChecksIf, MayClaim, HasTicket, IsIdle, IsInserting, IsDeleting, IsUp, HasSet, IsAwake, StageFor, StagesAre, role_of, ticket_in, call_state, IsInCall, IsAsleep}
-use Rattle.fak_channel.specs.Moves
+use Rattle.fak_channel.specs.Standings.{IsStepSeatOf, StandsSo, StandsClear, StandsOwing, StandsChecking, OwesNone, Pays, ChecksIf, MayClaim, HasTicket, IsIdle, IsInserting, IsDeleting, IsUp, HasSet, IsOfKind, IsAwake, StageFor, StagesAre, role_of, ticket_in, call_state, IsInCall, IsAsleep}
+use Rattle.fak_channel.specs.Moves.{Debt, Look, Check, None_owed, first_debt, looks_for, with_looks, with_next, room_made, item_made, checked, refused_next, Calls, WasRefused, LoadsWord, passes, goes_round, finds, ClearsBit, GoesOnBy, LooksOnce, ClaimsRoom, room_granted, found_full, found_closed, ClaimsItem, item_granted, found_empty, FillsCell, WaitsForRoom, TakesItem, WaitsForItem, ChecksEmpty, found_drained, found_none, TestsRoom, sender_sleeps, room_came, TestsItem, no_item_yet, item_came, TestsDrained, receiver_sleeps, drained_meanwhile, ClearsOwn, FindsWake, FindsBitSet, OnlyStands, ShutsQueue, SetsBit, MovesNext, PaysCheck, ChecksOnce, MovesBy, Moves}
 use Rattle.fak_channel.proofs.Covering.{covers_same, covers_owing, covers_past, covers_round, covers_finding, covers_retrying, covers_done}
-use Rattle.fak_channel.proofs.Debts.{account_called, within_called, account_signed, within_signed, account_heard, within_heard}
 
 -- ---- plain facts
 
@@ -53,32 +52,32 @@ module _ {T : Type 0} {size : ℕ} {old new : SleeperInfo T} where
   stint_same makes = ap (λ (s : SeatInfo (Mark T)). s.stint) makes.same_seat
 
   -- a step on the bits
-  may_still : SameSeat old new → Makes size [] old.seat new.seat → MayClaim old → MayClaim new
-  may_still same makes may = record { idle = same.state ∙ may.idle; ticket = less_same (drawn_by new.seat) new.seat.stint may.ticket same.drawn (stint_same makes) }
+  may_step : {notes : List Note} {g : Account} → LeavesNoMark size notes g old new → MayClaim old → MayClaim new
+  may_step l may = record { idle = l.state ∙ may.idle; ticket = less_same (drawn_by new.seat) new.seat.stint may.ticket l.left (stint_same l.makes) }
 
   -- a refused claim
-  may_again : {kinds : List (Kind T)} → WasRefused old new → Makes size kinds old.seat new.seat → MayClaim new
+  may_again : {kinds : List (Kind T)} → WasRefused size old new → Makes size kinds old.seat new.seat → MayClaim new
   may_again was makes = record { idle = was.idle; ticket = less_same (drawn_by new.seat) new.seat.stint was.within was.drawn (stint_same makes) }
 
 -- ---- what comes next, while a debt is paid
 
 -- only states that may owe something can have a debt
-owing_next : {T : Type 0} (n : Next T) {s s' : CallStanding T} {q q' : SleeperInfo T} {g g' : Account} → (OwesNone s → ⊥) → (s.checks ≡ false → s'.checks ≡ false) → (ChecksIf s g → ChecksIf s' g') → (MayClaim q → MayClaim q') → state_of q'.seat ≡ state_of q.seat
+owing_next : {T : Type 0} (n : Next T) {s s' : CallStanding T} {q q' : SleeperInfo T} {g g' : Account} → s'.tries ≡ s.tries → (OwesNone s → ⊥) → (s.checks ≡ false → s'.checks ≡ false) → (ChecksIf s g → ChecksIf s' g') → (MayClaim q → MayClaim q') → state_of q'.seat ≡ state_of q.seat
     → (IsAwake g → IsAwake g') → StandsSo n s q g → StandsSo n s' q' g'
-owing_next Idle owes free if may same up h = absurd (owes h.none)
-owing_next (Claiming w) owes free if may same up h = absurd (owes h.none)
-owing_next Inserting owes free if may same up h = absurd (owes h.none)
-owing_next Deleting owes free if may same up h = absurd (owes h.none)
-owing_next Checking owes free if may same up h = record { queue = may h.queue; none = free h.none; stages = up h.stages }
-owing_next (Registering w) owes free if may same up h = record { queue = may h.queue; checks = if h.checks; stages = up h.stages }
-owing_next (Testing w) owes free if may same up h = absurd (owes h.none)
-owing_next TestingDrained owes free if may same up h = absurd (owes h.none)
-owing_next (TakingBack w) owes free if may same up h = absurd (owes h.none)
-owing_next (Sleeping w) owes free if may same up h = absurd (owes h.none)
-owing_next (Refusing w) owes free if may same up h = record { queue = may h.queue; checks = if h.checks; stages = up h.stages }
-owing_next (Refused w) owes free if may same up h = absurd (owes h.none)
-owing_next Shutting owes free if may same up h = absurd (owes h.none)
-owing_next (Ending o) owes free if may same up h = record { queue = same ∙ h.queue; checks = if h.checks; stages = up h.stages }
+owing_next Idle kind owes free if may same up h = absurd (owes h.none)
+owing_next (Claiming w) kind owes free if may same up h = absurd (owes h.none)
+owing_next Inserting kind owes free if may same up h = absurd (owes h.none)
+owing_next Deleting kind owes free if may same up h = absurd (owes h.none)
+owing_next Checking kind owes free if may same up h = record { queue = may h.queue; none = free h.none; stages = up h.stages }
+owing_next (Registering w) kind owes free if may same up h = record { stands = record { queue = may h.stands.queue; checks = if h.stands.checks; stages = up h.stands.stages }; tries = kind ∙ h.tries }
+owing_next (Testing w) kind owes free if may same up h = absurd (owes h.stands.none)
+owing_next TestingDrained kind owes free if may same up h = absurd (owes h.stands.none)
+owing_next (TakingBack w) kind owes free if may same up h = absurd (owes h.stands.none)
+owing_next (Sleeping w) kind owes free if may same up h = absurd (owes h.stands.none)
+owing_next (Refusing w) kind owes free if may same up h = record { stands = record { queue = may h.stands.queue; checks = if h.stands.checks; stages = up h.stands.stages }; tries = kind ∙ h.tries }
+owing_next (Refused w) kind owes free if may same up h = absurd (owes h.stands.none)
+owing_next Shutting kind owes free if may same up h = absurd (owes h.none)
+owing_next (Ending o) kind owes free if may same up h = record { queue = same ∙ h.queue; checks = if h.checks; stages = up h.stages }
 
 -- with nothing owed, a standing that may owe something owes nothing
 module _ {T : Type 0} (c : Channel T) {old new : ChannelSeat T} (S : IsStepSeatOf c old) where
@@ -89,41 +88,38 @@ module _ {T : Type 0} (c : Channel T) {old new : ChannelSeat T} (S : IsStepSeatO
   s = old.standing
 
   g : Account
-  g = account_of_seat n old.queue
+  g = account_of_seat old.queue
 
   -- the new standing agrees with the new account
-  put : (after : CallStanding T) (h : Account) → new.standing ≡ after → new.queue.seat.object ≡ old.queue.seat.object → AreWithin new.queue.notes (marks_by new.queue.seat) → account_of_seat n new.queue ≡ h
-      → Covers n after.senders h.sender → Covers n after.receivers h.receiver → StandsSo after.next after new.queue h → IsStepSeatOf c new
-  put after h stands object within account senders receivers next = record {
+  put : (after : CallStanding T) (h : Account) → new.standing ≡ after → new.queue.seat.object ≡ old.queue.seat.object → account_of_seat new.queue ≡ h → Covers n after.senders h.sender → Covers n after.receivers h.receiver
+      → StandsSo after.next after new.queue h → IsStepSeatOf c new
+  put after h stands object account senders receivers next = record {
     object = object ∙ S.object;
     ends = S.ends;
+    cells = S.cells;
     few = S.few;
-    within = within;
-    pays = subst (λ (t : CallStanding T). Pays n t (account_of_seat n new.queue)) (sym stands) (subst (Pays n after) (sym account) (record { senders = senders; receivers = receivers }));
-    next = subst (λ (t : CallStanding T). StandsSo t.next t new.queue (account_of_seat n new.queue)) (sym stands) (subst (StandsSo after.next after new.queue) (sym account) next);
+    pays = subst (λ (t : CallStanding T). Pays n t (account_of_seat new.queue)) (sym stands) (subst (Pays n after) (sym account) (record { senders = senders; receivers = receivers }));
+    next = subst (λ (t : CallStanding T). StandsSo t.next t new.queue (account_of_seat new.queue)) (sym stands) (subst (StandsSo after.next after new.queue) (sym account) next);
   }
 
-  put_signed : {size : ℕ} (kind : NoteKind) → Signs size kind old.queue new.queue → (after : CallStanding T) → new.standing ≡ after → Covers n after.senders (after_note n kind g).sender → Covers n after.receivers (after_note n kind g).receiver
+  -- as many seats as ends
+  seats_are : old.queue.seat.object.seats ≡ n
+  seats_are = ap (λ (o : ObjectId). o.seats) S.object ∙ sym S.ends
+
+  put_signed : {size : ℕ} (kind : NoteKind) → AddsNote size kind old.queue new.queue → (after : CallStanding T) → new.standing ≡ after → Covers n after.senders (after_note n kind g).sender → Covers n after.receivers (after_note n kind g).receiver
       → StandsSo after.next after new.queue (after_note n kind g) → IsStepSeatOf c new
   put_signed kind signs after stands senders receivers next =
-      put after (after_note n kind g) stands signs.same.object (within_signed n kind signs.adds) (account_signed n kind signs.adds) senders receivers next
+      put after (after_note n kind g) stands signs.object (signs.account ∙ ap (λ k. after_note k kind g) seats_are) senders receivers next
 
-  put_heard : {size : ℕ} → Hears size old.queue new.queue → (after : CallStanding T) → new.standing ≡ after → Covers n after.senders g.sender → Covers n after.receivers g.receiver → StandsSo after.next after new.queue g → IsStepSeatOf c new
-  put_heard hears after stands senders receivers next =
-      put after g stands hears.same.object (within_heard n hears.adds S.within) (account_heard n hears.adds S.within) senders receivers next
+  put_heard : {size : ℕ} → AddsNoNote size old.queue new.queue → (after : CallStanding T) → new.standing ≡ after → Covers n after.senders g.sender → Covers n after.receivers g.receiver → StandsSo after.next after new.queue g → IsStepSeatOf c new
+  put_heard hears after stands senders receivers next = put after g stands hears.object hears.account senders receivers next
 
-  put_called : {size : ℕ} (kinds : List (Kind T)) → Calls old.queue new.queue → Makes size kinds old.queue.seat new.queue.seat → (after : CallStanding T) → new.standing ≡ after → Covers n after.senders (after_kinds n (reverse kinds) g).sender → Covers n after.receivers (after_kinds n (reverse kinds) g).receiver
-      → StandsSo after.next after new.queue (after_kinds n (reverse kinds) g) → IsStepSeatOf c new
+  put_called : {size : ℕ} (kinds : List (Kind T)) → Calls size old.queue new.queue → Makes size kinds old.queue.seat new.queue.seat → (after : CallStanding T) → new.standing ≡ after → Covers n after.senders (after_kinds n (reverse kinds) g).sender
+      → Covers n after.receivers (after_kinds n (reverse kinds) g).receiver → StandsSo after.next after new.queue (after_kinds n (reverse kinds) g) → IsStepSeatOf c new
   put_called kinds calls makes after stands senders receivers next =
-      put after (after_kinds n (reverse kinds) g) stands calls.object (within_called n kinds makes calls.notes S.within) (account_called n kinds makes calls.notes S.within) senders receivers next
+      put after (after_kinds n (reverse kinds) g) stands calls.object (calls.notes.account kinds makes ∙ ap (λ k. after_kinds k (reverse kinds) g) seats_are) senders receivers next
 
   -- ---- looks
-
-  may_hear : {size : ℕ} → Hears size old.queue new.queue → MayClaim old.queue → MayClaim new.queue
-  may_hear hears may = may_still hears.same hears.adds.makes may
-
-  may_sign : {size : ℕ} {kind : NoteKind} → Signs size kind old.queue new.queue → MayClaim old.queue → MayClaim new.queue
-  may_sign signs may = may_still signs.same signs.adds.makes may
 
   small_found : (l : Looks) (d : _) (k : ℕ) → Covers n l d → k / 64 ≡ word_at l → k < large_seats
   small_found l d k covers same = small_name k l.from (words_of n) n S.few refl covers.from same
@@ -131,34 +127,34 @@ module _ {T : Type 0} (c : Channel T) {old new : ChannelSeat T} (S : IsStepSeatO
   looked : {size : ℕ} (role : Role) → (looks_for role s).is_owed ≡ true → LoadsWord n size role (looks_for role s) old new → IsStepSeatOf c new
   looked Sender owed (passes signs stands) =
       put_signed (AsSender (PassesWord (word_at s.senders))) signs (record s { senders = past_word n s.senders }) stands (covers_past owed S.pays.senders) S.pays.receivers
-      (owing_next s.next (λ o. not_both owed o.senders) (λ e. e) (λ e. e) (may_sign signs) signs.same.state (λ up. record { sender = up.sender; receiver = up.receiver }) S.next)
+      (owing_next s.next refl (λ o. not_both owed o.senders) (λ e. e) (λ e. e) (λ may. may_step signs may) signs.state (λ up. record { sender = up.sender; receiver = up.receiver }) S.next)
   looked Sender owed (goes_round hears some stands) =
-      put_heard hears (record s { senders = past_bits n s.senders }) stands (covers_round owed S.pays.senders) S.pays.receivers (owing_next s.next (λ o. not_both owed o.senders) (λ e. e) (λ e. e) (may_hear hears) hears.same.state (λ up. up) S.next)
+      put_heard hears (record s { senders = past_bits n s.senders }) stands (covers_round owed S.pays.senders) S.pays.receivers (owing_next s.next refl (λ o. not_both owed o.senders) (λ e. e) (λ e. e) (λ may. may_step hears may) hears.state (λ up. up) S.next)
   looked Sender owed (finds k hears same some stands) =
       put_heard hears (record s { senders = finding k s.senders }) stands (covers_finding k (small_found s.senders g.sender k S.pays.senders same) S.pays.senders) S.pays.receivers
-      (owing_next s.next (λ o. not_both owed o.senders) (λ e. e) (λ e. e) (may_hear hears) hears.same.state (λ up. up) S.next)
+      (owing_next s.next refl (λ o. not_both owed o.senders) (λ e. e) (λ e. e) (λ may. may_step hears may) hears.state (λ up. up) S.next)
   looked Receiver owed (passes signs stands) =
       put_signed (AsReceiver (PassesWord (word_at s.receivers))) signs (record s { receivers = past_word n s.receivers }) stands S.pays.senders (covers_past owed S.pays.receivers)
-      (owing_next s.next (λ o. not_both owed o.receivers) (λ e. e) (λ e. e) (may_sign signs) signs.same.state (λ up. record { sender = up.sender; receiver = up.receiver }) S.next)
+      (owing_next s.next refl (λ o. not_both owed o.receivers) (λ e. e) (λ e. e) (λ may. may_step signs may) signs.state (λ up. record { sender = up.sender; receiver = up.receiver }) S.next)
   looked Receiver owed (goes_round hears some stands) =
-      put_heard hears (record s { receivers = past_bits n s.receivers }) stands S.pays.senders (covers_round owed S.pays.receivers) (owing_next s.next (λ o. not_both owed o.receivers) (λ e. e) (λ e. e) (may_hear hears) hears.same.state (λ up. up) S.next)
+      put_heard hears (record s { receivers = past_bits n s.receivers }) stands S.pays.senders (covers_round owed S.pays.receivers) (owing_next s.next refl (λ o. not_both owed o.receivers) (λ e. e) (λ e. e) (λ may. may_step hears may) hears.state (λ up. up) S.next)
   looked Receiver owed (finds k hears same some stands) =
       put_heard hears (record s { receivers = finding k s.receivers }) stands S.pays.senders (covers_finding k (small_found s.receivers g.receiver k S.pays.receivers same) S.pays.receivers)
-      (owing_next s.next (λ o. not_both owed o.receivers) (λ e. e) (λ e. e) (may_hear hears) hears.same.state (λ up. up) S.next)
+      (owing_next s.next refl (λ o. not_both owed o.receivers) (λ e. e) (λ e. e) (λ may. may_step hears may) hears.state (λ up. up) S.next)
 
-  woke : {size : ℕ} (role : Role) (k : ℕ) → (looks_for role s).is_owed ≡ true → Signs size (as_role role (WakesEnd k)) old.queue new.queue → new.standing ≡ with_looks role (done_at n k (looks_for role s)) s → IsStepSeatOf c new
+  woke : {size : ℕ} (role : Role) (k : ℕ) → (looks_for role s).is_owed ≡ true → AddsNote size (as_role role (WakesEnd k)) old.queue new.queue → new.standing ≡ with_looks role (done_at n k (looks_for role s)) s → IsStepSeatOf c new
   woke Sender k owed signs stands =
       put_signed (AsSender (WakesEnd k)) signs (record s { senders = done_at n k s.senders }) stands (covers_done k S.pays.senders) S.pays.receivers
-      (owing_next s.next (λ o. not_both owed o.senders) (λ e. e) (λ e. e) (may_sign signs) signs.same.state (λ up. record { sender = up.sender; receiver = up.receiver }) S.next)
+      (owing_next s.next refl (λ o. not_both owed o.senders) (λ e. e) (λ e. e) (λ may. may_step signs may) signs.state (λ up. record { sender = up.sender; receiver = up.receiver }) S.next)
   woke Receiver k owed signs stands =
       put_signed (AsReceiver (WakesEnd k)) signs (record s { receivers = done_at n k s.receivers }) stands S.pays.senders (covers_done k S.pays.receivers)
-      (owing_next s.next (λ o. not_both owed o.receivers) (λ e. e) (λ e. e) (may_sign signs) signs.same.state (λ up. record { sender = up.sender; receiver = up.receiver }) S.next)
+      (owing_next s.next refl (λ o. not_both owed o.receivers) (λ e. e) (λ e. e) (λ may. may_step signs may) signs.state (λ up. record { sender = up.sender; receiver = up.receiver }) S.next)
 
-  retried : {size : ℕ} (role : Role) → (looks_for role s).is_owed ≡ true → Hears size old.queue new.queue → new.standing ≡ with_looks role (retrying (looks_for role s)) s → IsStepSeatOf c new
+  retried : {size : ℕ} (role : Role) → (looks_for role s).is_owed ≡ true → AddsNoNote size old.queue new.queue → new.standing ≡ with_looks role (retrying (looks_for role s)) s → IsStepSeatOf c new
   retried Sender owed hears stands =
-      put_heard hears (record s { senders = retrying s.senders }) stands (covers_retrying S.pays.senders) S.pays.receivers (owing_next s.next (λ o. not_both owed o.senders) (λ e. e) (λ e. e) (may_hear hears) hears.same.state (λ up. up) S.next)
+      put_heard hears (record s { senders = retrying s.senders }) stands (covers_retrying S.pays.senders) S.pays.receivers (owing_next s.next refl (λ o. not_both owed o.senders) (λ e. e) (λ e. e) (λ may. may_step hears may) hears.state (λ up. up) S.next)
   retried Receiver owed hears stands =
-      put_heard hears (record s { receivers = retrying s.receivers }) stands S.pays.senders (covers_retrying S.pays.receivers) (owing_next s.next (λ o. not_both owed o.receivers) (λ e. e) (λ e. e) (may_hear hears) hears.same.state (λ up. up) S.next)
+      put_heard hears (record s { receivers = retrying s.receivers }) stands S.pays.senders (covers_retrying S.pays.receivers) (owing_next s.next refl (λ o. not_both owed o.receivers) (λ e. e) (λ e. e) (λ may. may_step hears may) hears.state (λ up. up) S.next)
 
   cleared : {size : ℕ} (role : Role) (k : ℕ) (r : ChannelStep T) → (looks_for role s).is_owed ≡ true → ClearsBit n size role (looks_for role s) old new k r → IsStepSeatOf c new
   cleared role k GoesOn owed m = retried role owed m.0 m.1
@@ -180,13 +176,15 @@ module _ {T : Type 0} (c : Channel T) {old new : ChannelSeat T} (S : IsStepSeatO
   few_owed : {looks : ℕ} → looks ≡ 0 → looks + 1 ≤ 1
   few_owed none = omega (arith, none)
 
-  paid_check : (drained : Bool) {size : ℕ} → s.receivers.is_owed ≡ false → s.checks ≡ true → Signs size (Checks drained) old.queue new.queue → new.standing ≡ checked n drained s → IsStepSeatOf c new
-  paid_check true none owed signs stands =
+  paid_check : (drained : Bool) {size : ℕ} → s.receivers.is_owed ≡ false → s.checks ≡ true → ChecksDrained size drained old.queue new.queue → new.standing ≡ checked n drained s → IsStepSeatOf c new
+  paid_check true none owed m stands =
+      let signs = m.0 in
       put_signed (Checks true) signs (checked n true s) stands S.pays.senders (covers_owing (owes_look g.receiver) (few_owed (S.pays.receivers.owed none)) S.pays.receivers)
-      (owing_next s.next (λ o. not_both owed o.checks) (λ e. refl) (λ e f. refl) (may_sign signs) signs.same.state (λ up. record { sender = up.sender; receiver = up.receiver }) S.next)
-  paid_check false none owed signs stands =
+      (owing_next s.next refl (λ o. not_both owed o.checks) (λ e. refl) (λ e f. refl) (λ may. may_step signs may) signs.state (λ up. record { sender = up.sender; receiver = up.receiver }) S.next)
+  paid_check false none owed m stands =
+      let signs = m.0 in
       put_signed (Checks false) signs (checked n false s) stands S.pays.senders S.pays.receivers
-      (owing_next s.next (λ o. not_both owed o.checks) (λ e. refl) (λ e f. refl) (may_sign signs) signs.same.state (λ up. record { sender = up.sender; receiver = up.receiver }) S.next)
+      (owing_next s.next refl (λ o. not_both owed o.checks) (λ e. refl) (λ e f. refl) (λ may. may_step signs may) signs.state (λ up. record { sender = up.sender; receiver = up.receiver }) S.next)
 
   -- ---- claims
 
@@ -205,13 +203,13 @@ module _ {T : Type 0} (c : Channel T) {old new : ChannelSeat T} (S : IsStepSeatO
 
     -- a refused claim of room: a try ends, and another call sets its bit
     refused_stands : (w : Wish T) (h : Account) → MayClaim new.queue → IsAwake h → StandsSo (refused_next s w) (with_next (refused_next s w) (room_made n s)) new.queue h
-    refused_stands w h may up = by s.tries
+    refused_stands w h may up = by s.tries refl
       where
-        by : (tries : Bool) → StandsSo (if tries then Refusing w else Registering w) (with_next (if tries then Refusing w else Registering w) (room_made n s)) new.queue h
-        by true = record { queue = may; checks = λ e. not_both refl e; stages = up }
-        by false = record { queue = may; checks = λ e. not_both refl e; stages = up }
+        by : (tries : Bool) → s.tries ≡ tries → StandsSo (if tries then Refusing w else Registering w) (with_next (if tries then Refusing w else Registering w) (room_made n s)) new.queue h
+        by true is = record { stands = record { queue = may; checks = λ e. not_both refl e; stages = up }; tries = is }
+        by false is = record { stands = record { queue = may; checks = λ e. not_both refl e; stages = up }; tries = is }
 
-    room_refused : {size : ℕ} (kinds : List (Kind T)) (next : Next T) → WasRefused old.queue new.queue → Makes size kinds old.queue.seat new.queue.seat → new.standing ≡ with_next next (room_made n s)
+    room_refused : {size : ℕ} (kinds : List (Kind T)) (next : Next T) → WasRefused size old.queue new.queue → Makes size kinds old.queue.seat new.queue.seat → new.standing ≡ with_next next (room_made n s)
         → (after_kinds n (reverse kinds) g).sender.looks ≤ 1 → (after_kinds n (reverse kinds) g).receiver.looks ≡ g.receiver.looks → (after_kinds n (reverse kinds) g).receiver.passed ≡ g.receiver.passed
         → StandsSo next (with_next next (room_made n s)) new.queue (after_kinds n (reverse kinds) g) → IsStepSeatOf c new
     room_refused kinds next was makes stands few looks passed next_so =
@@ -254,7 +252,7 @@ module _ {T : Type 0} (c : Channel T) {old new : ChannelSeat T} (S : IsStepSeatO
       sender_up : g.sender.stage ≡ Awake
       sender_up = elim up [ inl a ↦ a.sender | inr a ↦ a.sender ]
 
-      item_refused : {size : ℕ} (kinds : List (Kind T)) → WasRefused old.queue new.queue → Makes size kinds old.queue.seat new.queue.seat → new.standing ≡ with_next Checking (item_made n s) → (after_kinds n (reverse kinds) g).receiver.looks ≤ 1
+      item_refused : {size : ℕ} (kinds : List (Kind T)) → WasRefused size old.queue new.queue → Makes size kinds old.queue.seat new.queue.seat → new.standing ≡ with_next Checking (item_made n s) → (after_kinds n (reverse kinds) g).receiver.looks ≤ 1
           → (after_kinds n (reverse kinds) g).sender.looks ≡ g.sender.looks → (after_kinds n (reverse kinds) g).sender.passed ≡ g.sender.passed → IsAwake (after_kinds n (reverse kinds) g) → IsStepSeatOf c new
       item_refused kinds was makes stands few looks passed awake =
           put_called kinds was.calls makes (with_next Checking (item_made n s)) stands (covers_same (after_kinds n (reverse kinds) g).sender looks passed S.pays.senders) (covers_owing (after_kinds n (reverse kinds) g).receiver few S.pays.receivers)
@@ -303,26 +301,26 @@ module _ {T : Type 0} (c : Channel T) {old new : ChannelSeat T} (S : IsStepSeatO
 
     -- ---- on the way to sleep
 
-    tested_room : (x : T) → MayClaim old.queue → ChecksIf s g → StageFor (Send x) Registered g → TestsRoom c old new x → IsStepSeatOf c new
-    tested_room x may free stage (sender_sleeps signs full open stands) =
+    tested_room : (x : T) → s.tries ≡ false → MayClaim old.queue → ChecksIf s g → StageFor (Send x) Registered g → TestsRoom c old new x → IsStepSeatOf c new
+    tested_room x kind may free stage (sender_sleeps upper signs full stands) =
         put_signed (AsSender FallsAsleep) signs (with_next (Sleeping (Send x)) s) stands (covers_same (after_note n (AsSender FallsAsleep) g).sender refl refl S.pays.senders) S.pays.receivers
-        (record { queue = may_sign signs may; none = none_still (Sleeping (Send x)) none; checks = free; stages = record { sender = refl; receiver = stage.receiver } })
-    tested_room x may free stage (room_came hears why stands) =
-        put_heard hears (with_next (TakingBack (Send x)) s) stands S.pays.senders S.pays.receivers (record { queue = may_hear hears may; none = none_still (TakingBack (Send x)) none; checks = free; stages = inl stage })
+        (record { stands = record { queue = may_step signs may; none = none_still (Sleeping (Send x)) none; checks = free; stages = record { sender = refl; receiver = stage.receiver } }; tries = kind })
+    tested_room x kind may free stage (room_came hears why stands) =
+        put_heard hears (with_next (TakingBack (Send x)) s) stands S.pays.senders S.pays.receivers (record { stands = record { queue = may_step hears may; none = none_still (TakingBack (Send x)) none; checks = free; stages = inl stage }; tries = kind })
 
-    tested_item : MayClaim old.queue → ChecksIf s g → StageFor Receive Registered g → TestsItem c old new → IsStepSeatOf c new
-    tested_item may free stage (no_item_yet signs empty stands) =
+    tested_item : s.tries ≡ false → MayClaim old.queue → ChecksIf s g → StageFor Receive Registered g → TestsItem c old new → IsStepSeatOf c new
+    tested_item kind may free stage (no_item_yet lower signs empty stands) =
         put_signed (AsReceiver FindsNoItem) signs (with_next TestingDrained s) stands S.pays.senders (covers_same (after_note n (AsReceiver FindsNoItem) g).receiver refl refl S.pays.receivers)
-        (record { queue = may_sign signs may; none = none_still TestingDrained none; checks = free; stages = record { sender = stage.sender; receiver = refl } })
-    tested_item may free stage (item_came hears why stands) =
-        put_heard hears (with_next (TakingBack Receive) s) stands S.pays.senders S.pays.receivers (record { queue = may_hear hears may; none = none_still (TakingBack Receive) none; checks = free; stages = inl stage })
+        (record { stands = record { queue = may_step signs may; none = none_still TestingDrained none; checks = free; stages = record { sender = stage.sender; receiver = refl } }; tries = kind })
+    tested_item kind may free stage (item_came hears why stands) =
+        put_heard hears (with_next (TakingBack Receive) s) stands S.pays.senders S.pays.receivers (record { stands = record { queue = may_step hears may; none = none_still (TakingBack Receive) none; checks = free; stages = inl stage }; tries = kind })
 
-    tested_drained : MayClaim old.queue → ChecksIf s g → StagesAre Awake PastLower g → TestsDrained c old new → IsStepSeatOf c new
-    tested_drained may free stage (receiver_sleeps signs undrained stands) =
+    tested_drained : s.tries ≡ false → MayClaim old.queue → ChecksIf s g → StagesAre Awake PastLower g → TestsDrained c old new → IsStepSeatOf c new
+    tested_drained kind may free stage (receiver_sleeps signs undrained stands) =
         put_signed (AsReceiver FallsAsleep) signs (with_next (Sleeping Receive) s) stands S.pays.senders (covers_same (after_note n (AsReceiver FallsAsleep) g).receiver refl refl S.pays.receivers)
-        (record { queue = may_sign signs may; none = none_still (Sleeping Receive) none; checks = free; stages = record { sender = stage.sender; receiver = refl } })
-    tested_drained may free stage (drained_meanwhile hears why stands) =
-        put_heard hears (with_next (TakingBack Receive) s) stands S.pays.senders S.pays.receivers (record { queue = may_hear hears may; none = none_still (TakingBack Receive) none; checks = free; stages = inr stage })
+        (record { stands = record { queue = may_step signs may; none = none_still (Sleeping Receive) none; checks = free; stages = record { sender = stage.sender; receiver = refl } }; tries = kind })
+    tested_drained kind may free stage (drained_meanwhile hears why stands) =
+        put_heard hears (with_next (TakingBack Receive) s) stands S.pays.senders S.pays.receivers (record { stands = record { queue = may_step hears may; none = none_still (TakingBack Receive) none; checks = free; stages = inr stage }; tries = kind })
 
     -- the other role is awake
     OtherAwake : Wish T → Type 0
@@ -333,57 +331,57 @@ module _ {T : Type 0} (c : Channel T) {old new : ChannelSeat T} (S : IsStepSeatO
     other_awake (Send x) h = h.receiver
     other_awake Receive h = h.sender
 
-    claims_again : (w : Wish T) {size : ℕ} → MayClaim old.queue → ChecksIf s g → OtherAwake w → (was_set : Bool) → TakesBackOr size (role_of w) was_set old.queue new.queue → new.standing ≡ with_next (Claiming w) s → IsStepSeatOf c new
+    claims_again : (w : Wish T) {size : ℕ} → MayClaim old.queue → ChecksIf s g → OtherAwake w → (was_set : Bool) → TakesBit size (role_of w) was_set old.queue new.queue → new.standing ≡ with_next (Claiming w) s → IsStepSeatOf c new
     claims_again (Send x) may free other true signs stands =
         put_signed (AsSender TakesBack) signs (with_next (Claiming (Send x)) s) stands (covers_same (after_note n (AsSender TakesBack) g).sender refl refl S.pays.senders) S.pays.receivers
-        (record { queue = may_sign signs may; none = none_still (Claiming (Send x)) none; checks = free; stages = inl (record { sender = refl; receiver = other }) })
+        (record { queue = may_step signs may; none = none_still (Claiming (Send x)) none; checks = free; stages = inl (record { sender = refl; receiver = other }) })
     claims_again (Send x) may free other false signs stands =
         put_signed (AsSender IsWoken) signs (with_next (Claiming (Send x)) s) stands (covers_same (after_note n (AsSender IsWoken) g).sender refl refl S.pays.senders) S.pays.receivers
-        (record { queue = may_sign signs may; none = none_still (Claiming (Send x)) none; checks = free; stages = inr (record { sender = refl; receiver = other }) })
+        (record { queue = may_step signs may; none = none_still (Claiming (Send x)) none; checks = free; stages = inr (record { sender = refl; receiver = other }) })
     claims_again Receive may free other true signs stands =
         put_signed (AsReceiver TakesBack) signs (with_next (Claiming Receive) s) stands S.pays.senders (covers_same (after_note n (AsReceiver TakesBack) g).receiver refl refl S.pays.receivers)
-        (record { queue = may_sign signs may; none = none_still (Claiming Receive) none; checks = free; stages = inl (record { sender = other; receiver = refl }) })
+        (record { queue = may_step signs may; none = none_still (Claiming Receive) none; checks = free; stages = inl (record { sender = other; receiver = refl }) })
     claims_again Receive may free other false signs stands =
         put_signed (AsReceiver IsWoken) signs (with_next (Claiming Receive) s) stands S.pays.senders (covers_same (after_note n (AsReceiver IsWoken) g).receiver refl refl S.pays.receivers)
-        (record { queue = may_sign signs may; none = none_still (Claiming Receive) none; checks = free; stages = inr (record { sender = other; receiver = refl }) })
+        (record { queue = may_step signs may; none = none_still (Claiming Receive) none; checks = free; stages = inr (record { sender = other; receiver = refl }) })
 
     own_cleared : (w : Wish T) → MayClaim old.queue → ChecksIf s g → HasSet w g → ClearsOwn c old new w → IsStepSeatOf c new
     own_cleared w may free (inl stage) m = claims_again w may free (other_awake w stage) m.was_set m.takes m.stands
     own_cleared w may free (inr stage) m = claims_again w may free (other_awake w stage) m.was_set m.takes m.stands
 
-    registered : (w : Wish T) → MayClaim old.queue → ChecksIf s g → IsAwake g → SetsBit c old new w → IsStepSeatOf c new
-    registered (Send x) may free up m =
+    registered : (w : Wish T) → s.tries ≡ false → MayClaim old.queue → ChecksIf s g → IsAwake g → SetsBit c old new w → IsStepSeatOf c new
+    registered (Send x) kind may free up m =
         put_signed (AsSender Registers) m.signs (with_next (Testing (Send x)) s) m.stands (covers_same (after_note n (AsSender Registers) g).sender refl refl S.pays.senders) S.pays.receivers
-        (record { queue = may_sign m.signs may; none = none_still (Testing (Send x)) none; checks = free; stages = record { sender = refl; receiver = up.receiver } })
-    registered Receive may free up m =
+        (record { stands = record { queue = may_step m.signs may; none = none_still (Testing (Send x)) none; checks = free; stages = record { sender = refl; receiver = up.receiver } }; tries = kind })
+    registered Receive kind may free up m =
         put_signed (AsReceiver Registers) m.signs (with_next (Testing Receive) s) m.stands S.pays.senders (covers_same (after_note n (AsReceiver Registers) g).receiver refl refl S.pays.receivers)
-        (record { queue = may_sign m.signs may; none = none_still (Testing Receive) none; checks = free; stages = record { sender = up.sender; receiver = refl } })
+        (record { stands = record { queue = may_step m.signs may; none = none_still (Testing Receive) none; checks = free; stages = record { sender = up.sender; receiver = refl } }; tries = kind })
 
-    still_set : (w : Wish T) → MayClaim old.queue → ChecksIf s g → StageFor w Asleep g → s.next ≡ Sleeping w → FindsBitSet c old new → IsStepSeatOf c new
-    still_set w may free stage is m =
-        put_heard m.hears s m.stands S.pays.senders S.pays.receivers (subst (λ (x : Next T). StandsSo x s new.queue g) (sym is) (record { queue = may_hear m.hears may; none = none; checks = free; stages = stage }))
+    still_set : (w : Wish T) → s.tries ≡ false → MayClaim old.queue → ChecksIf s g → StageFor w Asleep g → s.next ≡ Sleeping w → FindsBitSet c old new → IsStepSeatOf c new
+    still_set w kind may free stage is m =
+        put_heard m.hears s m.stands S.pays.senders S.pays.receivers (subst (λ (x : Next T). StandsSo x s new.queue g) (sym is) (record { stands = record { queue = may_step m.hears may; none = none; checks = free; stages = stage }; tries = kind }))
 
     -- a check after a claim that found no item
     checked_empty : MayClaim old.queue → IsAwake g → ChecksEmpty c old new → IsStepSeatOf c new
     checked_empty may up (found_drained m stands) =
-        put_signed (Checks true) m.signs (with_next (Ending outcome.Drained) (checked n true s)) stands S.pays.senders (covers_owing (owes_look g.receiver) (few_owed no_receiver) S.pays.receivers)
-        (record { queue = m.signs.same.state ∙ may.idle; checks = λ e. refl; stages = record { sender = up.sender; receiver = up.receiver } })
+        put_signed (Checks true) m.0 (with_next (Ending outcome.Drained) (checked n true s)) stands S.pays.senders (covers_owing (owes_look g.receiver) (few_owed no_receiver) S.pays.receivers)
+        (record { queue = m.signs.state ∙ may.idle; checks = λ e. refl; stages = record { sender = up.sender; receiver = up.receiver } })
     checked_empty may up (found_none m stands) =
-        put_signed (Checks false) m.signs (with_next (refused_next s Receive) (checked n false s)) stands S.pays.senders S.pays.receivers (by s.tries)
+        put_signed (Checks false) m.0 (with_next (refused_next s Receive) (checked n false s)) stands S.pays.senders S.pays.receivers (by s.tries refl)
       where
-        by : (tries : Bool) → StandsSo (if tries then Refusing Receive else Registering Receive) (with_next (if tries then Refusing Receive else Registering Receive) (checked n false s)) new.queue (after_note n (Checks false) g)
-        by true = record { queue = may_sign m.signs may; checks = λ e. refl; stages = record { sender = up.sender; receiver = up.receiver } }
-        by false = record { queue = may_sign m.signs may; checks = λ e. refl; stages = record { sender = up.sender; receiver = up.receiver } }
+        by : (tries : Bool) → s.tries ≡ tries → StandsSo (if tries then Refusing Receive else Registering Receive) (with_next (if tries then Refusing Receive else Registering Receive) (checked n false s)) new.queue (after_note n (Checks false) g)
+        by true is = record { stands = record { queue = may_step m.0 may; checks = λ e. refl; stages = record { sender = up.sender; receiver = up.receiver } }; tries = is }
+        by false is = record { stands = record { queue = may_step m.0 may; checks = λ e. refl; stages = record { sender = up.sender; receiver = up.receiver } }; tries = is }
 
     -- nothing but the standing changes
     only_stands : (next : Next T) → OnlyStands c old new (with_next next s) → StandsSo next (with_next next s) old.queue g → IsStepSeatOf c new
     only_stands next m next_so = record {
       object = ap (λ (q : SleeperInfo T). q.seat.object) m.same ∙ S.object;
       ends = S.ends;
+      cells = S.cells;
       few = S.few;
-      within = subst (λ (q : SleeperInfo T). AreWithin q.notes (marks_by q.seat)) (sym m.same) S.within;
-      pays = subst (λ (t : CallStanding T). Pays n t (account_of_seat n new.queue)) (sym m.stands) (subst (λ (q : SleeperInfo T). Pays n (with_next next s) (account_of_seat n q)) (sym m.same) (record { senders = S.pays.senders; receivers = S.pays.receivers }));
-      next = subst (λ (t : CallStanding T). StandsSo t.next t new.queue (account_of_seat n new.queue)) (sym m.stands) (subst (λ (q : SleeperInfo T). StandsSo next (with_next next s) q (account_of_seat n q)) (sym m.same) next_so);
+      pays = subst (λ (t : CallStanding T). Pays n t (account_of_seat new.queue)) (sym m.stands) (subst (λ (q : SleeperInfo T). Pays n (with_next next s) (account_of_seat q)) (sym m.same) (record { senders = S.pays.senders; receivers = S.pays.receivers }));
+      next = subst (λ (t : CallStanding T). StandsSo t.next t new.queue (account_of_seat new.queue)) (sym m.stands) (subst (λ (q : SleeperInfo T). StandsSo next (with_next next s) q (account_of_seat q)) (sym m.same) next_so);
     }
 
     -- the step by what comes next
@@ -410,38 +408,38 @@ module _ {T : Type 0} (c : Channel T) {old new : ChannelSeat T} (S : IsStepSeatO
     next_moved Checking Sleeps is h m = absurd m
     next_moved Checking (Wakes k) is h m = absurd m
     next_moved Checking (Ends o) is h m = absurd m
-    next_moved (Registering w) GoesOn is h m = registered w h.queue h.checks h.stages m
+    next_moved (Registering w) GoesOn is h m = registered w h.tries h.stands.queue h.stands.checks h.stands.stages m
     next_moved (Registering w) NotYet is h m = absurd m
     next_moved (Registering w) Sleeps is h m = absurd m
     next_moved (Registering w) (Wakes k) is h m = absurd m
     next_moved (Registering w) (Ends o) is h m = absurd m
-    next_moved (Testing (Send x)) GoesOn is h m = tested_room x h.queue h.checks h.stages m
-    next_moved (Testing Receive) GoesOn is h m = tested_item h.queue h.checks h.stages m
+    next_moved (Testing (Send x)) GoesOn is h m = tested_room x h.tries h.stands.queue h.stands.checks h.stands.stages m
+    next_moved (Testing Receive) GoesOn is h m = tested_item h.tries h.stands.queue h.stands.checks h.stands.stages m
     next_moved (Testing w) NotYet is h m = absurd m
     next_moved (Testing w) Sleeps is h m = absurd m
     next_moved (Testing w) (Wakes k) is h m = absurd m
     next_moved (Testing w) (Ends o) is h m = absurd m
-    next_moved TestingDrained GoesOn is h m = tested_drained h.queue h.checks h.stages m
+    next_moved TestingDrained GoesOn is h m = tested_drained h.tries h.stands.queue h.stands.checks h.stands.stages m
     next_moved TestingDrained NotYet is h m = absurd m
     next_moved TestingDrained Sleeps is h m = absurd m
     next_moved TestingDrained (Wakes k) is h m = absurd m
     next_moved TestingDrained (Ends o) is h m = absurd m
-    next_moved (TakingBack w) GoesOn is h m = own_cleared w h.queue h.checks h.stages m
+    next_moved (TakingBack w) GoesOn is h m = own_cleared w h.stands.queue h.stands.checks h.stands.stages m
     next_moved (TakingBack w) NotYet is h m = absurd m
     next_moved (TakingBack w) Sleeps is h m = absurd m
     next_moved (TakingBack w) (Wakes k) is h m = absurd m
     next_moved (TakingBack w) (Ends o) is h m = absurd m
-    next_moved (Sleeping w) GoesOn is h m = claims_again w h.queue h.checks (other_awake w h.stages) false m.signs m.stands
+    next_moved (Sleeping w) GoesOn is h m = claims_again w h.stands.queue h.stands.checks (other_awake w h.stands.stages) false m.signs m.stands
     next_moved (Sleeping w) NotYet is h m = absurd m
-    next_moved (Sleeping w) Sleeps is h m = still_set w h.queue h.checks h.stages is m
+    next_moved (Sleeping w) Sleeps is h m = still_set w h.tries h.stands.queue h.stands.checks h.stands.stages is m
     next_moved (Sleeping w) (Wakes k) is h m = absurd m
     next_moved (Sleeping w) (Ends o) is h m = absurd m
     next_moved (Refusing w) GoesOn is h m = absurd m
     next_moved (Refusing w) NotYet is h m = absurd m
-    next_moved (Refusing w) Sleeps is h m = only_stands (Refused w) m (record { queue = h.queue; none = none_still (Refused w) none; checks = h.checks; stages = h.stages })
+    next_moved (Refusing w) Sleeps is h m = only_stands (Refused w) m (record { stands = record { queue = h.stands.queue; none = none_still (Refused w) none; checks = h.stands.checks; stages = h.stands.stages }; tries = h.tries })
     next_moved (Refusing w) (Wakes k) is h m = absurd m
     next_moved (Refusing w) (Ends o) is h m = absurd m
-    next_moved (Refused w) GoesOn is h m = only_stands (Claiming w) m (record { queue = h.queue; none = none_still (Claiming w) none; checks = h.checks; stages = up_of w h.stages })
+    next_moved (Refused w) GoesOn is h m = only_stands (Claiming w) m (record { queue = h.stands.queue; none = none_still (Claiming w) none; checks = h.stands.checks; stages = up_of w h.stands.stages })
       where
         up_of : (w : Wish T) → IsAwake g → IsUp w g
         up_of (Send x) up = inl up
@@ -462,7 +460,7 @@ module _ {T : Type 0} (c : Channel T) {old new : ChannelSeat T} (S : IsStepSeatO
     next_moved (Ending o) (Ends p) is h m = only_stands Idle m.1 (record { queue = h.queue; none = none_still Idle none; checks = h.checks; stages = h.stages })
 
   checked_once : (r : ChannelStep T) → s.receivers.is_owed ≡ false → s.checks ≡ true → ChecksOnce c old new r → IsStepSeatOf c new
-  checked_once GoesOn none owed m = paid_check m.drained none owed m.checks.signs m.stands
+  checked_once GoesOn none owed m = paid_check m.drained none owed m.checks m.stands
   checked_once NotYet none owed m = absurd m
   checked_once Sleeps none owed m = absurd m
   checked_once (Wakes k) none owed m = absurd m

@@ -13,6 +13,8 @@ use Rattle.fak_channel.specs.declared.fault.ReceiveFault.{ReceiveFault}
 use Rattle.fak_channel.specs.declared.fault.ReceiveFault.TheVariants as receiving
 use Rattle.fak_channel.specs.declared.fault.SendFault.{SendFault}
 use Rattle.fak_channel.specs.declared.fault.SendFault.TheVariants as sending
+use Rattle.fak_channel.specs.declared.progress.Stop.{Stop}
+use Rattle.fak_channel.specs.declared.progress.Stop.TheVariants as stop
 use Rattle.fak_channel.specs.declared.seat.ChannelSeat.{ChannelSeat}
 use Rattle.fak_channel.specs.declared.standing.ChannelStep.{ChannelStep}
 use Rattle.fak_channel.specs.declared.standing.ChannelStep.TheVariants as step
@@ -24,7 +26,7 @@ use Rattle.fak_channel.specs.declared.standing.Wish.{Wish}
 use Rattle.fak_channel.specs.declared.standing.Wish.TheVariants.{Send, Receive}
 use Rattle.fak_channel.specs.Standings.{IsBetweenCalls, IsInCall, IsAsleep, role_of}
 use Rattle.fak_channel.specs.Marks.{Looked, HasFoundFull, FullSoFar, HasFoundEmpty, EmptySoFar, HasClaimedIn, HasClaimedOut, HasMade}
-use Rattle.fak_channel.specs.Channels.{IsSpent, NotesMore, HasFallenAsleep, HasTakenBack, Sends, Receives, FindsClosed, IsOver, ClosesAs, RefusesSendUntil, RefusesReceiveUntil, RefusesTrySend, RefusesTryReceive, GivesUpSending, GivesUpReceiving}
+use Rattle.fak_channel.specs.Channels.{IsSpent, OnlyLooks, NotesMore, HasFallenAsleep, HasTakenBack, Sends, Receives, FindsClosed, IsOver, ClosesAs, RefusesSendUntil, RefusesReceiveUntil, RefusesTrySend, RefusesTryReceive, GivesUpSending, GivesUpReceiving}
 use Rattle.fak_channel.specs.Moves.{Moves}
 
 -- what a call is asked to do
@@ -39,14 +41,18 @@ module _ {T : Type 0} (size : ℕ) where
   -- nothing was granted yet
   abbrev pub WaitsSince : Asked T → ChannelSeat T → Wish T → ChannelSeat T → Type 0
   WaitsSince (Sending x) began (Send y) s = (y ≡ x) × FullSoFar size began.queue.seat s.queue.seat
+  WaitsSince (Sending x) began Receive s = ⊥
+  WaitsSince Receiving began (Send y) s = ⊥
   WaitsSince Receiving began Receive s = EmptySoFar size began.queue.seat s.queue.seat
-  WaitsSince _ began _ s = ⊥
+  WaitsSince Closing began w s = ⊥
 
   -- and at least one claim was refused
   abbrev pub RefusedSince : Asked T → ChannelSeat T → Wish T → ChannelSeat T → Type 0
   RefusedSince (Sending x) began (Send y) s = (y ≡ x) × HasFoundFull size began.queue.seat s.queue.seat
+  RefusedSince (Sending x) began Receive s = ⊥
+  RefusedSince Receiving began (Send y) s = ⊥
   RefusedSince Receiving began Receive s = HasFoundEmpty size began.queue.seat s.queue.seat
-  RefusedSince _ began _ s = ⊥
+  RefusedSince Closing began w s = ⊥
 
   pub record InsertsSince (x : T) (began s : ChannelSeat T) : Type 0 where
     pub before : SeatInfo (Mark T)
@@ -64,26 +70,31 @@ module _ {T : Type 0} (size : ℕ) where
 
   abbrev pub InsertsAs : Asked T → ChannelSeat T → ChannelSeat T → Type 0
   InsertsAs (Sending x) began s = InsertsSince x began s
-  InsertsAs _ began s = ⊥
+  InsertsAs Receiving began s = ⊥
+  InsertsAs Closing began s = ⊥
 
   abbrev pub DeletesAs : Asked T → ChannelSeat T → ChannelSeat T → Type 0
+  DeletesAs (Sending x) began s = ⊥
   DeletesAs Receiving began s = DeletesSince began s
-  DeletesAs _ began s = ⊥
+  DeletesAs Closing began s = ⊥
 
   abbrev pub ShutsSince : Asked T → ChannelSeat T → ChannelSeat T → Type 0
+  ShutsSince (Sending x) began s = ⊥
+  ShutsSince Receiving began s = ⊥
   ShutsSince Closing began s = s.queue.seat ≡ began.queue.seat
-  ShutsSince _ began s = ⊥
 
   -- ---- how a call ends
 
   abbrev pub EndsAs : Asked T → Outcome T → ChannelSeat T → ChannelSeat T → Type 0
   EndsAs (Sending x) outcome.Sent began new = Sends size x began new
   EndsAs (Sending x) (outcome.Refused y) began new = (y ≡ x) × FindsClosed size began new
+  EndsAs (Sending x) o began new = ⊥
   EndsAs Receiving (outcome.Received x) began new = Receives size x began new
   EndsAs Receiving outcome.Drained began new = IsOver size began new
+  EndsAs Receiving o began new = ⊥
   EndsAs Closing outcome.Closed began new = ClosesAs size true began new
   EndsAs Closing outcome.WasClosed began new = ClosesAs size false began new
-  EndsAs _ _ began new = ⊥
+  EndsAs Closing o began new = ⊥
 
   -- ---- an open call
 
@@ -130,10 +141,48 @@ module _ {T : Type 0} (size : ℕ) where
   GivesUp old new None = (asked : Asked T) (began : ChannelSeat T) → CallSince asked began old → CallSince asked began new
   GivesUp old new (Some w) = (asked : Asked T) (began : ChannelSeat T) → CallSince asked began old → GivesUpFrom old.standing.next asked began new w
 
+  -- ---- runs of steps, whatever was asked
+
+  -- where a run stops: the call sleeps, or it has ended
+  abbrev pub StopsAt : ChannelSeat T → ChannelSeat T → Stop T → Type 0
+  StopsAt old new stop.Sleeps = IsAsleep new × ((asked : Asked T) (began : ChannelSeat T) → CallSince asked began old → CallSince asked began new)
+  StopsAt old new (stop.Ends o) = IsBetweenCalls new × ((asked : Asked T) (began : ChannelSeat T) → CallSince asked began old → EndsAs asked o began new)
+
+  abbrev pub EndsAll : ChannelSeat T → ChannelSeat T → Outcome T → Type 0
+  EndsAll old new o = (asked : Asked T) (began : ChannelSeat T) → CallSince asked began old → EndsAs asked o began new
+
+  -- each claim was refused
+  abbrev pub RefusesAll : ChannelSeat T → ChannelSeat T → Wish T → Type 0
+  RefusesAll old new w = (asked : Asked T) (began : ChannelSeat T) → CallSince asked began old → RefusedSince asked began w new
+
+  -- each claim was refused; the seat fell asleep, nobody woke it, and it took its bit back
+  abbrev pub WakesNone : ChannelSeat T → ChannelSeat T → Wish T → Type 0
+  WakesNone old new w = (asked : Asked T) (began : ChannelSeat T) → CallSince asked began old → RefusedSince asked began w new × HasTakenBack (role_of w) began.queue new.queue
+
   -- a call that begins
-  pub record BeginsAs (asked : Asked T) (old new : ChannelSeat T) : Type 0 where
+  pub record BeginsAs (is_try : Bool) (asked : Asked T) (old new : ChannelSeat T) : Type 0 where
     pub in_call : IsInCall new
+    pub tries : new.standing.tries ≡ is_try
     pub call : CallSince asked old new
+
+  -- a call that begins with a look
+  pub record BeginsAfterLook (asked : Asked T) (old new : ChannelSeat T) : Type 0 where
+    pub looks : HasMade size [] old.queue.seat new.queue.seat
+    pub same_notes : new.queue.notes ≡ old.queue.notes
+    pub begins : BeginsAs true asked new new
+
+  -- a try that does not begin, and the look that tells why
+  abbrev pub RefusesBeginTrySend : T → ChannelSeat T → ChannelSeat T → SendFault T → Type 0
+  RefusesBeginTrySend x old new (sending.Worn y) = (y ≡ x) × IsSpent old × (new ≡ old)
+  RefusesBeginTrySend x old new (sending.Closed y) = (y ≡ x) × OnlyLooks size old new × Has Close new.queue.seat.seen
+  RefusesBeginTrySend x old new (sending.Full y) = (y ≡ x) × OnlyLooks size old new × (pos size ≤ℤ upper_count new.queue.seat.seen)
+  RefusesBeginTrySend x old new (sending.TimedOut y) = ⊥
+
+  abbrev pub RefusesBeginTryReceive : ChannelSeat T → ChannelSeat T → ReceiveFault → Type 0
+  RefusesBeginTryReceive old new receiving.Worn = IsSpent old × (new ≡ old)
+  RefusesBeginTryReceive old new receiving.Closed = OnlyLooks size old new × IsDrained new.queue.seat.seen
+  RefusesBeginTryReceive old new receiving.Empty = OnlyLooks size old new × (upper_count new.queue.seat.seen ≤ℤ pos 0) × (Has Close new.queue.seat.seen → ⊥)
+  RefusesBeginTryReceive old new receiving.TimedOut = ⊥
 
 -- the state of the seat after a step
 abbrev pub StandsAfter : {T : Type 0} → ChannelSeat T → ChannelStep T → Type 0

@@ -1,7 +1,6 @@
 -- What callers see of a channel and of its seats, and what whole calls do to them. Histories have the oldest mark first.
 use Rattle.std.specs.Prelude.{◌≡◌, ◌⊎◌, ℕ, ◌+◌, Bool, true, false, List, [], ◌∷◌, ◌++◌, pos, ◌≤ℤ◌, ◌<ℤ◌}
 use Rattle.fak_model.specs.declared.note.Note.{Note}
-use Rattle.fak_model.specs.declared.note.NoteKind.{NoteKind}
 use Rattle.fak_model.specs.declared.note.Sign.TheVariants.{FallsAsleep, TakesBack}
 use Rattle.fak_model.specs.declared.queue.Kind.TheVariants.{Close}
 use Rattle.fak_model.specs.declared.queue.Mark.{Mark}
@@ -10,11 +9,10 @@ use Rattle.fak_model.specs.Calls.{SeatInfo, seat_info}
 use Rattle.fak_queue.specs.Drained.{IsDrained}
 use Rattle.fak_queue.specs.Queues.{Deletes, ShutsAs, drawn_by}
 use Rattle.fak_queue.specs.Retries.{InsertsAfterFull, ClosesAfterFull}
-use Rattle.fak_queue.specs.SleeperRest.{marks_by}
 use Rattle.fak_queue.specs.Sleepers.{as_role}
 use Rattle.fak_queue.specs.declared.role.Role.{Role}
 use Rattle.fak_queue.specs.declared.role.Role.TheVariants.{Sender, Receiver}
-use Rattle.fak_channel.specs.SleeperSeats.{SleeperInfo}
+use Rattle.fak_channel.specs.SleeperSeats.{SleeperInfo, note_of}
 use Rattle.fak_channel.specs.declared.channel.Channel.{Channel}
 use Rattle.fak_channel.specs.declared.seat.ChannelSeat.{ChannelSeat}
 use Rattle.fak_channel.specs.declared.fault.SendFault.{SendFault}
@@ -35,18 +33,15 @@ IsSpent s = drawn_by s.queue.seat ≡ s.queue.seat.stint
 abbrev pub NotesMore : {T : Type 0} → SleeperInfo T → SleeperInfo T → Type 0
 NotesMore old now = (more : List Note) × (now.notes ≡ more ++ old.notes)
 
-abbrev pub note_of : NoteKind → ℕ → Note
-note_of kind after = record { kind = kind; after = after }
-
 -- since then it has set its bit in this role and fallen asleep, and this is the last that it has noted
 pub record HasFallenAsleep {T : Type 0} (role : Role) (old now : SleeperInfo T) : Type 0 where
   pub more : List Note
-  pub notes : now.notes ≡ note_of (as_role role FallsAsleep) (marks_by now.seat) ∷ (more ++ old.notes)
+  pub notes : now.notes ≡ note_of (as_role role FallsAsleep) now ∷ (more ++ old.notes)
 
 -- and then it has found its bit still set, and has cleared it itself
 pub record HasTakenBack {T : Type 0} (role : Role) (old now : SleeperInfo T) : Type 0 where
   pub more : List Note
-  pub notes : now.notes ≡ note_of (as_role role TakesBack) (marks_by now.seat) ∷ (note_of (as_role role FallsAsleep) (marks_by now.seat) ∷ (more ++ old.notes))
+  pub notes : now.notes ≡ note_of (as_role role TakesBack) now ∷ (note_of (as_role role FallsAsleep) now ∷ (more ++ old.notes))
 
 -- ---- sending
 

@@ -1,3 +1,4 @@
+pub mod Found
 pub mod SleeperSeats
 pub mod Looks
 pub mod Standings

@@ -1,5 +1,5 @@
 -- Looks for sleepers: which words of bits are still to be loaded, and how a look covers what an end owes.
-use Rattle.std.specs.Prelude.{◌≡◌, ◌⊎◌, ℕ, ◌+◌, ◌*◌, ◌-◌, ◌/◌, ◌<◌, ◌≤◌, Bool, true, false, if◌then◌else◌, nat_lt, Option, Some, None, IfSome}
+use Rattle.std.specs.Prelude.{◌≡◌, ◌⊎◌, ℕ, ◌+◌, ◌*◌, ◌-◌, ◌/◌, ◌%◌, ◌<◌, ◌≤◌, Bool, true, false, if◌then◌else◌, nat_lt, Option, Some, None, IfSome}
 use Rattle.fak_model.specs.Limits.{large_seats}
 use Rattle.fak_channel_core.specs.SleeperSides.{Duty}
 use Rattle.fak_channel.specs.declared.standing.Looks.{Looks}
@@ -19,6 +19,10 @@ IsToPass words l v = ((word_at l ≤ v) × (v < word_at l + l.left)) ⊎ (v + wo
 -- the number after this one, among these numbers in a circle
 abbrev pub next_in : ℕ → ℕ → ℕ
 next_in count k = if nat_lt (k + 1) count then k + 1 else 0
+
+-- no look is owed, and the first one will begin at end 0
+abbrev pub fresh_looks : Looks
+fresh_looks = record { is_owed = false; from = 0; left = 0; found = None }
 
 -- one look is owed, which begins with all words still to be loaded
 abbrev pub owing : ℕ → Looks → Looks
@@ -52,3 +56,9 @@ pub record Covers (ends : ℕ) (l : Looks) (g : Duty) : Type 0 where
   pub left : l.left ≤ words_of ends
   pub found : IfSome l.found (λ k. k < large_seats)
   pub passed : l.is_owed ≡ true → (v : ℕ) → v < words_of ends → (g.passed v ≡ true) ⊎ IsToPass (words_of ends) l v
+
+-- an end of the word that the look has loaded, from the one on from which it goes; or there is none, and it began within the
+-- word
+abbrev pub IsFoundAt : Looks → Option ℕ → Type 0
+IsFoundAt l None = 0 < l.from % 64
+IsFoundAt l (Some k) = (k / 64 ≡ word_at l) × (l.from ≤ k)

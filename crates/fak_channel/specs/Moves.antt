@@ -13,9 +13,12 @@ use Rattle.fak_queue.specs.declared.state.SeatState.TheVariants as at
 use Rattle.fak_queue.specs.Drained.{IsDrained}
 use Rattle.fak_queue.specs.Queues.{ClaimsIn, ClaimsOut, Fills, Takes, WaitsToFill, WaitsToTake, RefusesFull, RefusesClosed, RefusesEmpty, ShutsAs, drawn_by, state_of}
 use Rattle.fak_queue.specs.Sleepers.{as_role}
-use Rattle.fak_channel.specs.SleeperSeats.{SleeperInfo, AddsNote, AddsNoNote}
+use Rattle.fak_channel.specs.SleeperSeats.{SleeperInfo, AddsNote, AddsNoNote, KeepsNotes, TakesBit, ChecksDrained}
+use Rattle.fak_channel.specs.Found.{HasRoom, HasNoRoom, HasItem, HasNoItem}
 use Rattle.fak_channel.specs.declared.channel.Channel.{Channel}
 use Rattle.fak_channel.specs.declared.seat.ChannelSeat.{ChannelSeat}
+use Rattle.fak_channel.specs.declared.progress.Progress.{Progress}
+use Rattle.fak_channel.specs.declared.progress.Progress.TheVariants as progress
 use Rattle.fak_channel.specs.declared.standing.CallStanding.{CallStanding}
 use Rattle.fak_channel.specs.declared.standing.ChannelStep.{ChannelStep}
 use Rattle.fak_channel.specs.declared.standing.ChannelStep.TheVariants.{GoesOn, NotYet, Sleeps, Wakes, Ends}
@@ -53,6 +56,10 @@ with_looks Receiver l s = record s { receivers = l }
 abbrev pub with_next : {T : Type 0} → Next T → CallStanding T → CallStanding T
 with_next next s = record s { next = next }
 
+-- the seat with this next
+abbrev pub at_next : {T : Type 0} → Next T → ChannelSeat T → ChannelSeat T
+at_next next s = record s { standing = with_next next s.standing }
+
 -- a look for a sender is owed, and a check
 abbrev pub room_made : {T : Type 0} → ℕ → CallStanding T → CallStanding T
 room_made ends s = record s { senders = owing ends s.senders; checks = true }
@@ -69,39 +76,16 @@ checked ends drained s = record s { receivers = if drained then owing ends s.rec
 abbrev pub refused_next : {T : Type 0} → CallStanding T → Wish T → Next T
 refused_next s w = if s.tries then Refusing w else Registering w
 
--- ---- steps on the bits
-
--- the seat is the same to the queue
-pub record SameSeat {T : Type 0} (old new : SleeperInfo T) : Type 0 where
-  pub object : new.seat.object ≡ old.seat.object
-  pub state : state_of new.seat ≡ state_of old.seat
-  pub drawn : drawn_by new.seat ≡ drawn_by old.seat
-
--- a step that adds this note
-pub record Signs {T : Type 0} (size : ℕ) (kind : NoteKind) (old new : SleeperInfo T) : Type 0 where
-  pub same : SameSeat old new
-  pub adds : AddsNote size kind old new
-
--- a step that adds none
-pub record Hears {T : Type 0} (size : ℕ) (old new : SleeperInfo T) : Type 0 where
-  pub same : SameSeat old new
-  pub adds : AddsNoNote size old new
-
--- a load of the own bit, or its deletion: it was set, and this is the note; or another end has cleared it
-abbrev pub TakesBackOr : {T : Type 0} → ℕ → Role → Bool → SleeperInfo T → SleeperInfo T → Type 0
-TakesBackOr size role true old new = Signs size (as_role role TakesBack) old new
-TakesBackOr size role false old new = Signs size (as_role role IsWoken) old new
-
 -- ---- steps on the queue
 
--- a call on the queue leaves the notes as they are, and this object
-pub record Calls {T : Type 0} (old new : SleeperInfo T) : Type 0 where
+-- a call on the queue leaves the notes as they are, and the object
+pub record Calls {T : Type 0} (size : ℕ) (old new : SleeperInfo T) : Type 0 where
   pub object : new.seat.object ≡ old.seat.object
-  pub notes : new.notes ≡ old.notes
+  pub notes : KeepsNotes size old new
 
 -- the claim was refused
-pub record WasRefused {T : Type 0} (old new : SleeperInfo T) : Type 0 where
-  pub calls : Calls old new
+pub record WasRefused {T : Type 0} (size : ℕ) (old new : SleeperInfo T) : Type 0 where
+  pub calls : Calls size old new
   pub idle : state_of new.seat ≡ at.Idle
   pub within : drawn_by old.seat < old.seat.stint
   pub drawn : drawn_by new.seat ≡ drawn_by old.seat
@@ -112,15 +96,15 @@ module _ {T : Type 0} (ends size : ℕ) (role : Role) (l : Looks) (old new : Cha
   -- a load of a word of bits: none is set; or only bits of ends before that from which on it looks; or that of end k, which
   -- is to be cleared next
   pub data LoadsWord : Type 0 where
-    passes : Signs size (as_role role (PassesWord (word_at l))) old.queue new.queue → new.standing ≡ with_looks role (past_word ends l) old.standing → LoadsWord
-    goes_round : Hears size old.queue new.queue → 0 < l.from % 64 → new.standing ≡ with_looks role (past_bits ends l) old.standing → LoadsWord
-    finds : (k : ℕ) → Hears size old.queue new.queue → k / 64 ≡ word_at l → l.from ≤ k → new.standing ≡ with_looks role (finding k l) old.standing → LoadsWord
+    passes : AddsNote size (as_role role (PassesWord (word_at l))) old.queue new.queue → new.standing ≡ with_looks role (past_word ends l) old.standing → LoadsWord
+    goes_round : AddsNoNote size old.queue new.queue → 0 < l.from % 64 → new.standing ≡ with_looks role (past_bits ends l) old.standing → LoadsWord
+    finds : (k : ℕ) → AddsNoNote size old.queue new.queue → k / 64 ≡ word_at l → l.from ≤ k → new.standing ≡ with_looks role (finding k l) old.standing → LoadsWord
 
   -- the deletion of the bit of end k: it was set, and this wakes that end; or another end was faster, and the look is tried
   -- again
   abbrev pub ClearsBit : ℕ → ChannelStep T → Type 0
-  ClearsBit k (Wakes number) = (number ≡ k) × Signs size (as_role role (WakesEnd k)) old.queue new.queue × (new.standing ≡ with_looks role (done_at ends k l) old.standing)
-  ClearsBit k GoesOn = Hears size old.queue new.queue × (new.standing ≡ with_looks role (retrying l) old.standing)
+  ClearsBit k (Wakes number) = (number ≡ k) × AddsNote size (as_role role (WakesEnd k)) old.queue new.queue × (new.standing ≡ with_looks role (done_at ends k l) old.standing)
+  ClearsBit k GoesOn = AddsNoNote size old.queue new.queue × (new.standing ≡ with_looks role (retrying l) old.standing)
   ClearsBit k _ = ⊥
 
   abbrev pub GoesOnBy : Type 0 → ChannelStep T → Type 0
@@ -144,31 +128,26 @@ module _ {T : Type 0} (c : Channel T) (old new : ChannelSeat T) where
   abbrev pub Stands : CallStanding T → Type 0
   Stands s = new.standing ≡ s
 
-  -- a check whether the channel is drained
-  pub record ChecksAs (drained : Bool) : Type 0 where
-    pub signs : Signs size (Checks drained) old.queue new.queue
-    pub is : IsTrue drained ↔ IsDrained new.queue.seat.seen
-
   -- a claim of room
   pub data ClaimsRoom (x : T) : Type 0 where
-    room_granted : (k : ℕ) → Calls old.queue new.queue → state_of new.queue.seat ≡ at.Inserting k → ClaimsIn size k x old.queue.seat new.queue.seat → Stands (with_next Inserting old.standing) → ClaimsRoom x
-    found_full : (upper : ℤ) → WasRefused old.queue new.queue → RefusesFull size upper old.queue.seat new.queue.seat → Stands (with_next (refused_next old.standing (Send x)) (room_made ends old.standing)) → ClaimsRoom x
-    found_closed : WasRefused old.queue new.queue → RefusesClosed size old.queue.seat new.queue.seat → Stands (with_next (Ending (outcome.Refused x)) (room_made ends old.standing)) → ClaimsRoom x
+    room_granted : (k : ℕ) → Calls size old.queue new.queue → state_of new.queue.seat ≡ at.Inserting k → ClaimsIn size k x old.queue.seat new.queue.seat → Stands (with_next Inserting old.standing) → ClaimsRoom x
+    found_full : (upper : ℤ) → WasRefused size old.queue new.queue → RefusesFull size upper old.queue.seat new.queue.seat → Stands (with_next (refused_next old.standing (Send x)) (room_made ends old.standing)) → ClaimsRoom x
+    found_closed : WasRefused size old.queue new.queue → RefusesClosed size old.queue.seat new.queue.seat → Stands (with_next (Ending (outcome.Refused x)) (room_made ends old.standing)) → ClaimsRoom x
 
   -- a claim of an item
   pub data ClaimsItem : Type 0 where
-    item_granted : (k : ℕ) → Calls old.queue new.queue → state_of new.queue.seat ≡ at.Deleting k → ClaimsOut size k old.queue.seat new.queue.seat → Stands (with_next Deleting old.standing) → ClaimsItem
-    found_empty : (lower : ℤ) → WasRefused old.queue new.queue → RefusesEmpty size lower old.queue.seat new.queue.seat → Stands (with_next Checking (item_made ends old.standing)) → ClaimsItem
+    item_granted : (k : ℕ) → Calls size old.queue new.queue → state_of new.queue.seat ≡ at.Deleting k → ClaimsOut size k old.queue.seat new.queue.seat → Stands (with_next Deleting old.standing) → ClaimsItem
+    found_empty : (lower : ℤ) → WasRefused size old.queue new.queue → RefusesEmpty size lower old.queue.seat new.queue.seat → Stands (with_next Checking (item_made ends old.standing)) → ClaimsItem
 
   -- the item goes into its cell, or its turn has not come
   pub record FillsCell : Type 0 where
-    pub calls : Calls old.queue new.queue
+    pub calls : Calls size old.queue new.queue
     pub idle : state_of new.queue.seat ≡ at.Idle
     pub fills : Fills size (ticket_in (state_of old.queue.seat)) old.queue.seat new.queue.seat
     pub stands : Stands (with_next (Ending outcome.Sent) (item_made ends old.standing))
 
   pub record WaitsForRoom : Type 0 where
-    pub calls : Calls old.queue new.queue
+    pub calls : Calls size old.queue new.queue
     pub same : state_of new.queue.seat ≡ state_of old.queue.seat
     pub waits : WaitsToFill size (ticket_in (state_of old.queue.seat)) old.queue.seat new.queue.seat
     pub stands : Stands old.standing
@@ -176,51 +155,60 @@ module _ {T : Type 0} (c : Channel T) (old new : ChannelSeat T) where
   -- the item comes out of its cell, or its turn has not come
   pub record TakesItem : Type 0 where
     pub item : T
-    pub calls : Calls old.queue new.queue
+    pub calls : Calls size old.queue new.queue
     pub idle : state_of new.queue.seat ≡ at.Idle
     pub takes : Takes size (ticket_in (state_of old.queue.seat)) item old.queue.seat new.queue.seat
     pub stands : Stands (with_next (Ending (outcome.Received item)) (room_made ends old.standing))
 
   pub record WaitsForItem : Type 0 where
-    pub calls : Calls old.queue new.queue
+    pub calls : Calls size old.queue new.queue
     pub same : state_of new.queue.seat ≡ state_of old.queue.seat
     pub waits : WaitsToTake size (ticket_in (state_of old.queue.seat)) old.queue.seat new.queue.seat
     pub stands : Stands old.standing
 
   -- after a claim that found no item: the channel is drained, and the call is over; or it is refused
   pub data ChecksEmpty : Type 0 where
-    found_drained : ChecksAs true → Stands (with_next (Ending outcome.Drained) (checked ends true old.standing)) → ChecksEmpty
-    found_none : ChecksAs false → Stands (with_next (refused_next old.standing Receive) (checked ends false old.standing)) → ChecksEmpty
+    found_drained : ChecksDrained size true old.queue new.queue → Stands (with_next (Ending outcome.Drained) (checked ends true old.standing)) → ChecksEmpty
+    found_none : ChecksDrained size false old.queue new.queue → Stands (with_next (refused_next old.standing Receive) (checked ends false old.standing)) → ChecksEmpty
 
   -- the second test of a sender: it finds the queue full and open, and falls asleep; or not
   pub data TestsRoom (x : T) : Type 0 where
-    sender_sleeps : Signs size (AsSender FallsAsleep) old.queue new.queue → pos size ≤ℤ upper_count new.queue.seat.seen → (Has Close new.queue.seat.seen → ⊥) → Stands (with_next (Sleeping (Send x)) old.standing) → TestsRoom x
-    room_came : Hears size old.queue new.queue → (upper_count new.queue.seat.seen <ℤ pos size) ⊎ Has Close new.queue.seat.seen → Stands (with_next (TakingBack (Send x)) old.standing) → TestsRoom x
+    sender_sleeps : (upper : ℤ) → AddsNote size (AsSender FallsAsleep) old.queue new.queue → HasNoRoom size upper new.queue.seat.seen → Stands (with_next (Sleeping (Send x)) old.standing) → TestsRoom x
+    room_came : AddsNoNote size old.queue new.queue → HasRoom size new.queue.seat.seen ⊎ Has Close new.queue.seat.seen → Stands (with_next (TakingBack (Send x)) old.standing) → TestsRoom x
 
   -- the second test of a receiver: it finds no item, or one
   pub data TestsItem : Type 0 where
-    no_item_yet : Signs size (AsReceiver FindsNoItem) old.queue new.queue → lower_count new.queue.seat.seen ≤ℤ pos 0 → Stands (with_next TestingDrained old.standing) → TestsItem
-    item_came : Hears size old.queue new.queue → pos 0 <ℤ lower_count new.queue.seat.seen → Stands (with_next (TakingBack Receive) old.standing) → TestsItem
+    no_item_yet : (lower : ℤ) → AddsNote size (AsReceiver FindsNoItem) old.queue new.queue → HasNoItem lower new.queue.seat.seen → Stands (with_next TestingDrained old.standing) → TestsItem
+    item_came : AddsNoNote size old.queue new.queue → HasItem new.queue.seat.seen → Stands (with_next (TakingBack Receive) old.standing) → TestsItem
 
   -- the rest of it: the channel is not drained, and the receiver falls asleep; or it is
   pub data TestsDrained : Type 0 where
-    receiver_sleeps : Signs size (AsReceiver FallsAsleep) old.queue new.queue → (IsDrained new.queue.seat.seen → ⊥) → Stands (with_next (Sleeping Receive) old.standing) → TestsDrained
-    drained_meanwhile : Hears size old.queue new.queue → IsDrained new.queue.seat.seen → Stands (with_next (TakingBack Receive) old.standing) → TestsDrained
+    receiver_sleeps : AddsNote size (AsReceiver FallsAsleep) old.queue new.queue → (IsDrained new.queue.seat.seen → ⊥) → Stands (with_next (Sleeping Receive) old.standing) → TestsDrained
+    drained_meanwhile : AddsNoNote size old.queue new.queue → IsDrained new.queue.seat.seen → Stands (with_next (TakingBack Receive) old.standing) → TestsDrained
 
   -- the own bit was set, and is clear now; or another end has cleared it. The call claims again
   pub record ClearsOwn (w : Wish T) : Type 0 where
     pub was_set : Bool
-    pub takes : TakesBackOr size (role_of w) was_set old.queue new.queue
+    pub takes : TakesBit size (role_of w) was_set old.queue new.queue
     pub stands : Stands (with_next (Claiming w) old.standing)
 
   -- the own bit is clear: another end has woken this one
   pub record FindsWake (w : Wish T) : Type 0 where
-    pub signs : Signs size (as_role (role_of w) IsWoken) old.queue new.queue
+    pub signs : AddsNote size (as_role (role_of w) IsWoken) old.queue new.queue
     pub stands : Stands (with_next (Claiming w) old.standing)
+
+  -- a call that sleeps is given up: it takes its bit back and is over, or it had been woken and claims again
+  pub record TakesOwn (w : Wish T) : Type 0 where
+    pub signs : AddsNote size (as_role (role_of w) TakesBack) old.queue new.queue
+    pub stands : Stands (with_next Idle old.standing)
+
+  abbrev pub GivesUpSleep : Wish T → Option (Wish T) → Type 0
+  GivesUpSleep w None = FindsWake w
+  GivesUpSleep w (Some v) = (v ≡ w) × TakesOwn w
 
   -- the own bit is set
   pub record FindsBitSet : Type 0 where
-    pub hears : Hears size old.queue new.queue
+    pub hears : AddsNoNote size old.queue new.queue
     pub stands : Stands old.standing
 
   -- nothing but the standing changes
@@ -230,13 +218,13 @@ module _ {T : Type 0} (c : Channel T) (old new : ChannelSeat T) where
 
   pub record ShutsQueue : Type 0 where
     pub was_open : Bool
-    pub calls : Calls old.queue new.queue
+    pub calls : Calls size old.queue new.queue
     pub idle : state_of new.queue.seat ≡ at.Idle
     pub shuts : ShutsAs size was_open old.queue.seat new.queue.seat
     pub stands : Stands (with_next (Ending (if was_open then outcome.Closed else outcome.WasClosed)) (room_made ends old.standing))
 
   pub record SetsBit (w : Wish T) : Type 0 where
-    pub signs : Signs size (as_role (role_of w) Registers) old.queue new.queue
+    pub signs : AddsNote size (as_role (role_of w) Registers) old.queue new.queue
     pub stands : Stands (with_next (Testing w) old.standing)
 
   -- the step by what comes next, once nothing is owed
@@ -263,7 +251,7 @@ module _ {T : Type 0} (c : Channel T) (old new : ChannelSeat T) where
 
   pub record PaysCheck : Type 0 where
     pub drained : Bool
-    pub checks : ChecksAs drained
+    pub checks : ChecksDrained size drained old.queue new.queue
     pub stands : Stands (checked ends drained old.standing)
 
   abbrev pub ChecksOnce : ChannelStep T → Type 0
@@ -275,6 +263,14 @@ module _ {T : Type 0} (c : Channel T) (old new : ChannelSeat T) where
   MovesBy (Look role) s = LooksOnce ends size role (looks_for role old.standing) old new (looks_for role old.standing).found s
   MovesBy Check s = ChecksOnce s
   MovesBy None_owed s = MovesNext old.standing.next s
+
+-- what a step tells callers outside this crate
+abbrev pub step_of : {T : Type 0} → Progress T → ChannelStep T
+step_of progress.GoesOn = GoesOn
+step_of progress.NotYet = NotYet
+step_of progress.Sleeps = Sleeps
+step_of (progress.Wakes wake) = Wakes wake.number
+step_of (progress.Ends o) = Ends o
 
 -- one step of a call
 abbrev pub Moves : {T : Type 0} → Channel T → ChannelSeat T → ChannelSeat T → ChannelStep T → Type 0

@@ -1,11 +1,9 @@
 -- What the type of a channel's seat keeps: how its standing agrees with its account as an end of the channel.
-use Rattle.std.specs.Prelude.{◌≡◌, ◌≢◌, ◌⊎◌, ℕ, ◌<◌, ◌≤◌, Bool, true, false}
+use Rattle.std.specs.Prelude.{◌≡◌, ◌≢◌, ◌⊎◌, ℕ, ◌*◌, ◌<◌, ◌≤◌, Bool, true, false, IfSome, pos}
 use Rattle.fak_model.specs.Limits.{large_seats}
 use Rattle.fak_channel_core.specs.SleeperSides.{SleepStage, Awake, Registered, PastLower, Asleep, Woken, relies_on_bit}
 use Rattle.fak_channel_core.specs.SleeperMoves.{Account}
-use Rattle.fak_queue.specs.Accounts.{AreWithin}
 use Rattle.fak_queue.specs.Queues.{drawn_by, state_of}
-use Rattle.fak_queue.specs.SleeperRest.{marks_by}
 use Rattle.fak_queue.specs.declared.role.Role.{Role}
 use Rattle.fak_queue.specs.declared.role.Role.TheVariants.{Sender, Receiver}
 use Rattle.fak_queue.specs.declared.state.SeatState.{SeatState}
@@ -20,7 +18,8 @@ use Rattle.fak_channel.specs.declared.standing.Next.{Next}
 use Rattle.fak_channel.specs.declared.standing.Next.TheVariants.{Idle, Claiming, Inserting, Deleting, Checking, Registering, Testing, TestingDrained, TakingBack, Sleeping, Refusing, Refused, Shutting, Ending}
 use Rattle.fak_channel.specs.declared.standing.Wish.{Wish}
 use Rattle.fak_channel.specs.declared.standing.Wish.TheVariants.{Send, Receive}
-use Rattle.fak_channel.specs.Looks.{Covers}
+use Rattle.fak_channel.specs.declared.standing.Looks.{Looks}
+use Rattle.fak_channel.specs.Looks.{Covers, fresh_looks, words_of}
 
 abbrev pub call_state : {T : Type 0} → Next T → ChannelState
 call_state Idle = state.Idle
@@ -37,6 +36,10 @@ call_state (Refusing w) = state.Open
 call_state (Refused w) = state.Sleeping
 call_state Shutting = state.Open
 call_state (Ending o) = state.Open
+
+-- a seat that has begun no call
+abbrev pub fresh_standing : {T : Type 0} → CallStanding T
+fresh_standing = record { senders = fresh_looks; receivers = fresh_looks; checks = false; tries = false; next = Idle }
 
 -- a call is open
 abbrev pub IsInCall : {T : Type 0} → ChannelSeat T → Type 0
@@ -121,6 +124,11 @@ pub record StandsChecking {T : Type 0} (s : CallStanding T) (q : SleeperInfo T) 
   pub none : s.checks ≡ false
   pub stages : IsAwake g
 
+-- the same of a call that is a try, or is none
+pub record IsOfKind {T : Type 0} (is_try : Bool) (s : CallStanding T) (Fits : Type 0) : Type 0 where
+  pub stands : Fits
+  pub tries : s.tries ≡ is_try
+
 abbrev pub IsIdle : {T : Type 0} → SleeperInfo T → Type 0
 IsIdle q = state_of q.seat ≡ at.Idle
 
@@ -145,13 +153,13 @@ StandsSo (Claiming w) s q g = StandsClear MayClaim (IsUp w) s q g
 StandsSo Inserting s q g = StandsClear IsInserting IsAwake s q g
 StandsSo Deleting s q g = StandsClear IsDeleting IsAwake s q g
 StandsSo Checking s q g = StandsChecking s q g
-StandsSo (Registering w) s q g = StandsOwing MayClaim s q g
-StandsSo (Testing w) s q g = StandsClear MayClaim (StageFor w Registered) s q g
-StandsSo TestingDrained s q g = StandsClear MayClaim (StagesAre Awake PastLower) s q g
-StandsSo (TakingBack w) s q g = StandsClear MayClaim (HasSet w) s q g
-StandsSo (Sleeping w) s q g = StandsClear MayClaim (StageFor w Asleep) s q g
-StandsSo (Refusing w) s q g = StandsOwing MayClaim s q g
-StandsSo (Refused w) s q g = StandsClear MayClaim IsAwake s q g
+StandsSo (Registering w) s q g = IsOfKind false s (StandsOwing MayClaim s q g)
+StandsSo (Testing w) s q g = IsOfKind false s (StandsClear MayClaim (StageFor w Registered) s q g)
+StandsSo TestingDrained s q g = IsOfKind false s (StandsClear MayClaim (StagesAre Awake PastLower) s q g)
+StandsSo (TakingBack w) s q g = IsOfKind false s (StandsClear MayClaim (HasSet w) s q g)
+StandsSo (Sleeping w) s q g = IsOfKind false s (StandsClear MayClaim (StageFor w Asleep) s q g)
+StandsSo (Refusing w) s q g = IsOfKind true s (StandsOwing MayClaim s q g)
+StandsSo (Refused w) s q g = IsOfKind true s (StandsClear MayClaim IsAwake s q g)
 StandsSo Shutting s q g = StandsClear IsIdle IsAwake s q g
 StandsSo (Ending o) s q g = StandsOwing IsIdle s q g
 
@@ -159,12 +167,20 @@ StandsSo (Ending o) s q g = StandsOwing IsIdle s q g
 pub record IsStepSeatOf {T : Type 0} (c : Channel T) (s : ChannelSeat T) : Type 0 where
   pub object : s.queue.seat.object ≡ c.queue.object
   pub ends : c.ends ≡ c.queue.object.seats
+  pub cells : c.size ≡ pos c.queue.size
   pub few : c.ends ≤ large_seats
-  pub within : AreWithin s.queue.notes (marks_by s.queue.seat)
-  pub pays : Pays c.ends s.standing (account_of_seat c.ends s.queue)
-  pub next : StandsSo s.standing.next s.standing s.queue (account_of_seat c.ends s.queue)
+  pub pays : Pays c.ends s.standing (account_of_seat s.queue)
+  pub next : StandsSo s.standing.next s.standing s.queue (account_of_seat s.queue)
 
 -- the same between two calls
 pub record IsSeatOf {T : Type 0} (c : Channel T) (s : ChannelSeat T) : Type 0 where
   pub stands : IsStepSeatOf c s
   pub idle : IsBetweenCalls s
+
+-- the seat may take the next step of this look
+pub record CanLook {T : Type 0} (c : Channel T) (l : Looks) (s : ChannelSeat T) : Type 0 where
+  pub object : s.queue.seat.object ≡ c.queue.object
+  pub idle : state_of s.queue.seat ≡ at.Idle
+  pub few : c.ends ≤ large_seats
+  pub from : l.from < 64 * words_of c.ends
+  pub found : IfSome l.found (λ k. k < large_seats)

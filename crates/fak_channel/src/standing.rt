@@ -119,7 +119,20 @@ pub struct CallStanding<T> {
 
 impl<T> CallStanding<T> {
     ghost use Rattle.std.specs.Prelude.{◌≡◌};
-    ghost use Rattle.fak_channel.specs.Standings.{call_state};
+    ghost use Rattle.fak_channel.specs.Standings.{call_state, fresh_standing};
+
+    /// That of a seat that has begun no call.
+    pub(crate) fn new() -> CallStanding<T>
+        ensures { result ≡ fresh_standing }
+    {
+        CallStanding {
+            senders: Looks::new(),
+            receivers: Looks::new(),
+            checks: false,
+            tries: false,
+            next: Next::Idle,
+        }
+    }
 
     pub(crate) fn state(&self) -> ChannelState
         ensures { result ≡ call_state self.now.next }

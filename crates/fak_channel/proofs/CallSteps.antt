@@ -1,0 +1,408 @@
+-- How each step of a call adds to what the call has done so far.
+use Rattle.std.proofs.Common.{◌≡◌, ◌≢◌, ◌⊎◌, ℕ, ◌+◌, ◌<◌, Bool, true, false, refl, ap, sym, ◌∙◌, subst, inl, inr, arith, List, [], ◌∷◌, ◌++◌, length, Option, Some, None, if◌then◌else◌}
+use Rattle.fak_model.specs.declared.note.Note.{Note}
+use Rattle.fak_model.specs.declared.note.NoteKind.{NoteKind}
+use Rattle.fak_model.specs.declared.note.NoteKind.TheVariants.{AsSender, AsReceiver, Checks}
+use Rattle.fak_model.specs.declared.note.Sign.TheVariants.{FallsAsleep, TakesBack}
+use Rattle.fak_model.specs.declared.queue.Kind.TheVariants as made
+use Rattle.fak_model.specs.declared.queue.Mark.{Mark}
+use Rattle.fak_model.specs.Calls.{SeatInfo}
+use Rattle.fak_channel_core.specs.SleeperMoves.{Account}
+use Rattle.fak_queue.specs.Queues.{Makes, Fills, Takes, ShutsAs, drawn_by, state_of}
+use Rattle.fak_queue.specs.SleeperRest.{marks_by}
+use Rattle.fak_queue.specs.Sleepers.{as_role}
+use Rattle.fak_queue.specs.declared.role.Role.{Role}
+use Rattle.fak_queue.specs.declared.role.Role.TheVariants.{Sender, Receiver}
+use Rattle.fak_queue.specs.declared.state.SeatState.TheVariants as at
+use Rattle.fak_queue.proofs.Accounts.{kinds_after}
+use Rattle.fak_channel.specs.SleeperSeats.{SleeperInfo, account_of_seat, AddsNote, AddsNoNote, LeavesNoMark, TakesBit, ChecksDrained, note_of}
+use Rattle.fak_channel.specs.declared.channel.Channel.{Channel}
+use Rattle.fak_channel.specs.declared.seat.ChannelSeat.{ChannelSeat}
+use Rattle.fak_channel.specs.declared.standing.CallStanding.{CallStanding}
+use Rattle.fak_channel.specs.declared.standing.ChannelStep.{ChannelStep}
+use Rattle.fak_channel.specs.declared.standing.ChannelStep.TheVariants.{GoesOn, NotYet, Sleeps, Wakes, Ends}
+use Rattle.fak_channel.specs.declared.standing.Looks.{Looks}
+use Rattle.fak_channel.specs.declared.standing.Next.{Next}
+use Rattle.fak_channel.specs.declared.standing.Next.TheVariants.{Idle, Claiming, Inserting, Deleting, Checking, Registering, Testing, TestingDrained, TakingBack, Sleeping, Refusing, Refused, Shutting, Ending}
+use Rattle.fak_channel.specs.declared.standing.Outcome.{Outcome}
+use Rattle.fak_channel.specs.declared.standing.Outcome.TheVariants as outcome
+use Rattle.fak_channel.specs.declared.standing.Wish.{Wish}
+use Rattle.fak_channel.specs.declared.standing.Wish.TheVariants.{Send, Receive}
+use Rattle.fak_channel.specs.Standings.{IsStepSeatOf, StandsSo, OwesNone, MayClaim, HasTicket, role_of, ticket_in}
+use Rattle.fak_channel.specs.Moves.{Debt, Look, Check, None_owed, looks_for, with_looks, with_next, refused_next, Calls, WasRefused, LoadsWord, passes, goes_round, finds, ClearsBit, LooksOnce, ClaimsRoom, room_granted, found_full, found_closed, ClaimsItem, item_granted, found_empty, FillsCell, WaitsForRoom, TakesItem, WaitsForItem, ChecksEmpty, found_drained, found_none, TestsRoom, sender_sleeps, room_came, TestsItem, no_item_yet, item_came, TestsDrained, receiver_sleeps, drained_meanwhile, ClearsOwn, FindsWake, FindsBitSet, OnlyStands, ShutsQueue, SetsBit, MovesNext, PaysCheck, ChecksOnce, MovesBy, Moves}
+use Rattle.fak_channel.specs.Channels.{NotesMore, HasFallenAsleep, HasTakenBack, Sends, FindsClosed, Receives, IsOver, ClosesAs}
+use Rattle.fak_channel.specs.Marks.{HasFoundFull, FullSoFar, HasFoundEmpty, EmptySoFar}
+use Rattle.fak_channel.specs.ChannelSteps.{Asked, Sending, Receiving, Closing, WaitsSince, RefusedSince, InsertsAs, DeletesAs, ShutsSince, EndsAs, SinceAt, CallSince, StepsTo, HasGoneOn, none, more}
+use Rattle.fak_channel.proofs.Marking.{looked_more, full_again, full_more, empty_again, empty_more, claimed_in, looked_in, claimed_out, looked_out, deleted_out, inserted_at_last, closed_at_last, made_first}
+
+-- ---- notes
+
+notes_on : {T : Type 0} {old mid new : SleeperInfo T} (x : Note) → new.notes ≡ x ∷ mid.notes → NotesMore old mid → NotesMore old new
+notes_on x is m = (x ∷ m.0, is ∙ ap (λ l. x ∷ l) m.1)
+
+notes_same : {T : Type 0} {old mid new : SleeperInfo T} → new.notes ≡ mid.notes → NotesMore old mid → NotesMore old new
+notes_same is m = (m.0, is ∙ m.1)
+
+-- a step that leaves no mark leaves the number of marks
+marks_same : {T : Type 0} {size : ℕ} {old new : SleeperInfo T} → Makes size [] old.seat new.seat → marks_by new.seat ≡ marks_by old.seat
+marks_same {T} {size} {old} {new} makes = ap length (kinds_after size [] old.seat new.seat makes)
+
+note_same : {T : Type 0} {old new : SleeperInfo T} (k : NoteKind) → marks_by new.seat ≡ marks_by old.seat → note_of k old ≡ note_of k new
+note_same k same = ap (λ (n : ℕ). let x : Note = record { kind = k; after = n } in x) (sym same)
+
+-- it falls asleep
+fallen : {T : Type 0} {size : ℕ} (role : Role) {began old new : SleeperInfo T} → AddsNote size (as_role role FallsAsleep) old new → NotesMore began old → HasFallenAsleep role began new
+fallen role {began} {old} {new} l m = record {
+  more = m.0;
+  notes = l.notes_are ∙ (ap (λ (x : Note). x ∷ old.notes) (note_same (as_role role FallsAsleep) (marks_same l.makes)) ∙ ap (λ (rest : List Note). note_of (as_role role FallsAsleep) new ∷ rest) m.1);
+}
+
+-- it still sleeps
+sleeps_on : {T : Type 0} {size : ℕ} (role : Role) {began old new : SleeperInfo T} → AddsNoNote size old new → HasFallenAsleep role began old → HasFallenAsleep role began new
+sleeps_on role {began} {old} {new} l h = record {
+  more = h.more;
+  notes = l.notes_are ∙ (h.notes ∙ ap (λ (x : Note). x ∷ (h.more ++ began.notes)) (note_same (as_role role FallsAsleep) (marks_same l.makes)));
+}
+
+-- it takes its bit back
+pub taken_back : {T : Type 0} {size : ℕ} (role : Role) {began old new : SleeperInfo T} → AddsNote size (as_role role TakesBack) old new → HasFallenAsleep role began old → HasTakenBack role began new
+taken_back role {began} {old} {new} l h = record {
+  more = h.more;
+  notes = l.notes_are ∙ (ap (λ (x : Note). x ∷ old.notes) (note_same (as_role role TakesBack) (marks_same l.makes))
+      ∙ ap (λ (rest : List Note). note_of (as_role role TakesBack) new ∷ rest) (h.notes ∙ ap (λ (x : Note). x ∷ (h.more ++ began.notes)) (note_same (as_role role FallsAsleep) (marks_same l.makes))));
+}
+
+module _ {T : Type 0} (size : ℕ) (asked : Asked T) (began : ChannelSeat T) {old new : ChannelSeat T} where
+  -- ---- steps that leave no mark
+
+  module _ (makes : Makes size [] old.queue.seat new.queue.seat) where
+    pub refused_on : (w : Wish T) → drawn_by new.queue.seat ≡ drawn_by old.queue.seat → RefusedSince size asked began w old → RefusedSince size asked began w new
+    refused_on w drawn h = by asked w h
+      where
+        by : (a : Asked T) (w : Wish T) → RefusedSince size a began w old → RefusedSince size a began w new
+        by (Sending x) (Send y) p = (p.0, full_more p.1 drawn makes)
+        by (Sending x) Receive p = absurd p
+        by Receiving (Send y) p = absurd p
+        by Receiving Receive p = empty_more p makes
+        by Closing w p = absurd p
+
+    ended_on : (o : Outcome T) → EndsAs size asked o began old → EndsAs size asked o began new
+    ended_on o h = by asked o h
+      where
+        by : (a : Asked T) (o : Outcome T) → EndsAs size a o began old → EndsAs size a o began new
+        by (Sending x) outcome.Sent p = record { ticket = p.ticket; sent = p.sent; inserts = p.inserts; looks = looked_more p.looks makes }
+        by (Sending x) (outcome.Refused y) p = (p.0, record { found = p.1.found; closes = p.1.closes; looks = looked_more p.1.looks makes })
+        by (Sending x) (outcome.Received y) p = absurd p
+        by (Sending x) outcome.Drained p = absurd p
+        by (Sending x) outcome.Worn p = absurd p
+        by (Sending x) outcome.Closed p = absurd p
+        by (Sending x) outcome.WasClosed p = absurd p
+        by Receiving outcome.Sent p = absurd p
+        by Receiving (outcome.Refused y) p = absurd p
+        by Receiving (outcome.Received x) p = record { began = p.began; empty = p.empty; ticket = p.ticket; taken = p.taken; deletes = p.deletes; looks = looked_more p.looks makes }
+        by Receiving outcome.Drained p = record { found = p.found; empty = p.empty; lawful = p.lawful; drained = p.drained; looks = looked_more p.looks makes }
+        by Receiving outcome.Worn p = absurd p
+        by Receiving outcome.Closed p = absurd p
+        by Receiving outcome.WasClosed p = absurd p
+        by Closing outcome.Sent p = absurd p
+        by Closing (outcome.Refused y) p = absurd p
+        by Closing (outcome.Received x) p = absurd p
+        by Closing outcome.Drained p = absurd p
+        by Closing outcome.Worn p = absurd p
+        by Closing outcome.Closed p = record { shut = p.shut; shuts = p.shuts; looks = looked_more p.looks makes }
+        by Closing outcome.WasClosed p = record { shut = p.shut; shuts = p.shuts; looks = looked_more p.looks makes }
+
+    -- while a debt is paid
+    owing_since : (n : Next T) {s : CallStanding T} {q : SleeperInfo T} {g : Account} → drawn_by new.queue.seat ≡ drawn_by old.queue.seat → (OwesNone s → ⊥) → StandsSo n s q g → SinceAt size n asked began old → SinceAt size n asked began new
+    owing_since Idle drawn owes so h = absurd (owes so.none)
+    owing_since (Claiming w) drawn owes so h = absurd (owes so.none)
+    owing_since Inserting drawn owes so h = absurd (owes so.none)
+    owing_since Deleting drawn owes so h = absurd (owes so.none)
+    owing_since Checking drawn owes so h = refused_on Receive drawn h
+    owing_since (Registering w) drawn owes so h = refused_on w drawn h
+    owing_since (Testing w) drawn owes so h = absurd (owes so.stands.none)
+    owing_since TestingDrained drawn owes so h = absurd (owes so.stands.none)
+    owing_since (TakingBack w) drawn owes so h = absurd (owes so.stands.none)
+    owing_since (Sleeping w) drawn owes so h = absurd (owes so.stands.none)
+    owing_since (Refusing w) drawn owes so h = refused_on w drawn h
+    owing_since (Refused w) drawn owes so h = absurd (owes so.stands.none)
+    owing_since Shutting drawn owes so h = absurd (owes so.none)
+    owing_since (Ending o) drawn owes so h = ended_on o h
+
+-- ---- the steps
+
+both_of : {A : Type 0} {b : Bool} → b ≡ true → b ≡ false → A
+both_of {A} {b} yes none_is = absurd (let f : true ≡ false = sym yes ∙ none_is in cc)
+
+module _ {T : Type 0} (c : Channel T) (asked : Asked T) (began : ChannelSeat T) {old new : ChannelSeat T} (since : CallSince c.queue.size asked began old) where
+  abbrev size : ℕ
+  size = c.queue.size
+
+  s : CallStanding T
+  s = old.standing
+
+  -- the call has come this far
+  by_standing : (after : CallStanding T) → new.standing ≡ after → NotesMore began.queue new.queue → SinceAt size after.next asked began new → CallSince size asked began new
+  by_standing after stands notes h = record { notes = notes; since = subst (λ (t : CallStanding T). SinceAt size t.next asked began new) (sym stands) h }
+
+  signed : {k : NoteKind} → AddsNote size k old.queue new.queue → NotesMore began.queue new.queue
+  signed {k} l = notes_on (note_of k old.queue) l.notes_are since.notes
+
+  heard : AddsNoNote size old.queue new.queue → NotesMore began.queue new.queue
+  heard l = notes_same l.notes_are since.notes
+
+  called : Calls size old.queue new.queue → NotesMore began.queue new.queue
+  called calls = notes_same calls.notes.notes since.notes
+
+  -- ---- debts
+
+  module _ {q : SleeperInfo T} {g : Account} (so : StandsSo s.next s q g) where
+    look_since : (role : Role) → (looks_for role s).is_owed ≡ true → LoadsWord c.ends size role (looks_for role s) old new → CallSince size asked began new
+    look_since Sender owed (passes l stands) = by_standing _ stands (signed l) (owing_since size asked began l.makes s.next l.left (λ o. both_of owed o.senders) so since.since)
+    look_since Sender owed (goes_round l some stands) = by_standing _ stands (heard l) (owing_since size asked began l.makes s.next l.left (λ o. both_of owed o.senders) so since.since)
+    look_since Sender owed (finds k l same some stands) = by_standing _ stands (heard l) (owing_since size asked began l.makes s.next l.left (λ o. both_of owed o.senders) so since.since)
+    look_since Receiver owed (passes l stands) = by_standing _ stands (signed l) (owing_since size asked began l.makes s.next l.left (λ o. both_of owed o.receivers) so since.since)
+    look_since Receiver owed (goes_round l some stands) = by_standing _ stands (heard l) (owing_since size asked began l.makes s.next l.left (λ o. both_of owed o.receivers) so since.since)
+    look_since Receiver owed (finds k l same some stands) = by_standing _ stands (heard l) (owing_since size asked began l.makes s.next l.left (λ o. both_of owed o.receivers) so since.since)
+
+    clear_since : (role : Role) (k : ℕ) (r : ChannelStep T) → (looks_for role s).is_owed ≡ true → ClearsBit c.ends size role (looks_for role s) old new k r → StepsTo size asked began new r
+    clear_since Sender k GoesOn owed m = by_standing _ m.1 (heard m.0) (owing_since size asked began m.0.makes s.next m.0.left (λ o. both_of owed o.senders) so since.since)
+    clear_since Receiver k GoesOn owed m = by_standing _ m.1 (heard m.0) (owing_since size asked began m.0.makes s.next m.0.left (λ o. both_of owed o.receivers) so since.since)
+    clear_since role k NotYet owed m = absurd m
+    clear_since role k Sleeps owed m = absurd m
+    clear_since Sender k (Wakes number) owed m = by_standing _ m.2 (signed m.1) (owing_since size asked began m.1.makes s.next m.1.left (λ o. both_of owed o.senders) so since.since)
+    clear_since Receiver k (Wakes number) owed m = by_standing _ m.2 (signed m.1) (owing_since size asked began m.1.makes s.next m.1.left (λ o. both_of owed o.receivers) so since.since)
+    clear_since role k (Ends o) owed m = absurd m
+
+    looks_since : (role : Role) (found : Option ℕ) (r : ChannelStep T) → (looks_for role s).is_owed ≡ true → LooksOnce c.ends size role (looks_for role s) old new found r → StepsTo size asked began new r
+    looks_since role None GoesOn owed m = look_since role owed m
+    looks_since role None NotYet owed m = absurd m
+    looks_since role None Sleeps owed m = absurd m
+    looks_since role None (Wakes number) owed m = absurd m
+    looks_since role None (Ends o) owed m = absurd m
+    looks_since role (Some k) r owed m = clear_since role k r owed m
+
+    check_since : (r : ChannelStep T) → s.checks ≡ true → ChecksOnce c old new r → StepsTo size asked began new r
+    check_since GoesOn owed m = by m.drained m.checks m.stands
+      where
+        by : (drained : Bool) → ChecksDrained size drained old.queue new.queue → new.standing ≡ _ → CallSince size asked began new
+        by true l stands = by_standing _ stands (signed l.0) (owing_since size asked began l.0.makes s.next l.0.left (λ o. both_of owed o.checks) so since.since)
+        by false l stands = by_standing _ stands (signed l.0) (owing_since size asked began l.0.makes s.next l.0.left (λ o. both_of owed o.checks) so since.since)
+    check_since NotYet owed m = absurd m
+    check_since Sleeps owed m = absurd m
+    check_since (Wakes number) owed m = absurd m
+    check_since (Ends o) owed m = absurd m
+
+  -- ---- what comes next
+
+  -- a refused call either is a try or sets its bit
+  refused_to : (w : Wish T) → RefusedSince size asked began w new → SinceAt size (refused_next s w) asked began new
+  refused_to w h = by s.tries
+    where
+      by : (tries : Bool) → SinceAt size (if tries then Refusing w else Registering w) asked began new
+      by true = h
+      by false = h
+
+  room_since : (x : T) → WaitsSince size asked began (Send x) old → ClaimsRoom c old new x → CallSince size asked began new
+  room_since x h (room_granted k calls state claims stands) = by_standing _ stands (called calls) (by asked h)
+    where
+      by : (a : Asked T) → WaitsSince size a began (Send x) old → InsertsAs size a began new
+      by (Sending y) p = subst (λ (z : T). InsertsAs size (Sending z) began new) p.0 (record { before = old.queue.seat; full = p.1; ticket = k; claimed = claimed_in claims; state = state })
+      by Receiving p = absurd p
+      by Closing p = absurd p
+  room_since x h (found_full upper was refuses stands) = by_standing _ stands (called was.calls) (refused_to (Send x) (by asked h))
+    where
+      by : (a : Asked T) → WaitsSince size a began (Send x) old → RefusedSince size a began (Send x) new
+      by (Sending y) p = (p.0, full_again p.1 was.within was.drawn refuses)
+      by Receiving p = absurd p
+      by Closing p = absurd p
+  room_since x h (found_closed was refuses stands) = by_standing _ stands (called was.calls) (by asked h)
+    where
+      by : (a : Asked T) → WaitsSince size a began (Send x) old → EndsAs size a (outcome.Refused x) began new
+      by (Sending y) p = (p.0, record { found = new.queue.seat; closes = closed_at_last p.1 was.within refuses; looks = inl refl })
+      by Receiving p = absurd p
+      by Closing p = absurd p
+
+  item_since : WaitsSince size asked began Receive old → ClaimsItem c old new → CallSince size asked began new
+  item_since h (item_granted k calls state claims stands) = by_standing _ stands (called calls) (by asked h)
+    where
+      by : (a : Asked T) → WaitsSince size a began Receive old → DeletesAs size a began new
+      by (Sending y) p = absurd p
+      by Receiving p = record { before = old.queue.seat; empty = p; ticket = k; claimed = claimed_out claims; state = state }
+      by Closing p = absurd p
+  item_since h (found_empty lower was refuses stands) = by_standing _ stands (called was.calls) (by asked h)
+    where
+      by : (a : Asked T) → WaitsSince size a began Receive old → RefusedSince size a began Receive new
+      by (Sending y) p = absurd p
+      by Receiving p = empty_again p was.within refuses
+      by Closing p = absurd p
+
+  filled_since : InsertsAs size asked began old → FillsCell c old new → CallSince size asked began new
+  filled_since h m = by_standing _ m.stands (called m.calls) (by asked h)
+    where
+      by : (a : Asked T) → InsertsAs size a began old → EndsAs size a outcome.Sent began new
+      by (Sending y) p = record { ticket = p.ticket; sent = new.queue.seat; inserts = inserted_at_last p.full p.claimed (subst (λ (k : ℕ). Fills size k old.queue.seat new.queue.seat) (ap ticket_in p.state) m.fills); looks = inl refl }
+      by Receiving p = absurd p
+      by Closing p = absurd p
+
+  room_waits_since : s.next ≡ Inserting → InsertsAs size asked began old → WaitsForRoom c old new → CallSince size asked began new
+  room_waits_since is h m = by_standing s m.stands (called m.calls) (subst (λ (x : Next T). SinceAt size x asked began new) (sym is) (by asked h))
+    where
+      by : (a : Asked T) → InsertsAs size a began old → InsertsAs size a began new
+      by (Sending y) p = record { before = p.before; full = p.full; ticket = p.ticket; claimed = looked_in p.claimed m.waits.makes; state = m.same ∙ p.state }
+      by Receiving p = absurd p
+      by Closing p = absurd p
+
+  taken_since : DeletesAs size asked began old → TakesItem c old new → CallSince size asked began new
+  taken_since h m = by_standing _ m.stands (called m.calls) (by asked h)
+    where
+      by : (a : Asked T) → DeletesAs size a began old → EndsAs size a (outcome.Received m.item) began new
+      by (Sending y) p = absurd p
+      by Receiving p = record { began = p.before; empty = p.empty; ticket = p.ticket; taken = new.queue.seat; deletes = deleted_out p.claimed (subst (λ (k : ℕ). Takes size k m.item old.queue.seat new.queue.seat) (ap ticket_in p.state) m.takes); looks = inl refl }
+      by Closing p = absurd p
+
+  item_waits_since : s.next ≡ Deleting → DeletesAs size asked began old → WaitsForItem c old new → CallSince size asked began new
+  item_waits_since is h m = by_standing s m.stands (called m.calls) (subst (λ (x : Next T). SinceAt size x asked began new) (sym is) (by asked h))
+    where
+      by : (a : Asked T) → DeletesAs size a began old → DeletesAs size a began new
+      by (Sending y) p = absurd p
+      by Receiving p = record { before = p.before; empty = p.empty; ticket = p.ticket; claimed = looked_out p.claimed m.waits.makes; state = m.same ∙ p.state }
+      by Closing p = absurd p
+
+  empty_since : RefusedSince size asked began Receive old → ChecksEmpty c old new → CallSince size asked began new
+  empty_since h (found_drained l stands) = by_standing _ stands (signed l.0) (by asked (refused_on size asked began l.0.makes Receive l.0.left h))
+    where
+      by : (a : Asked T) → RefusedSince size a began Receive new → EndsAs size a outcome.Drained began new
+      by (Sending y) p = absurd p
+      by Receiving p = record { found = new.queue.seat; empty = p; lawful = l.0.makes.lawful; drained = l.1; looks = inl refl }
+      by Closing p = absurd p
+  empty_since h (found_none l stands) = by_standing _ stands (signed l.0) (refused_to Receive (refused_on size asked began l.0.makes Receive l.0.left h))
+
+  room_test_since : (x : T) → RefusedSince size asked began (Send x) old → TestsRoom c old new x → CallSince size asked began new
+  room_test_since x h (sender_sleeps upper l full stands) = by_standing _ stands (signed l) (refused_on size asked began l.makes (Send x) l.left h, fallen Sender l since.notes)
+  room_test_since x h (room_came l why stands) = by_standing _ stands (heard l) (refused_on size asked began l.makes (Send x) l.left h)
+
+  item_test_since : RefusedSince size asked began Receive old → TestsItem c old new → CallSince size asked began new
+  item_test_since h (no_item_yet lower l empty stands) = by_standing _ stands (signed l) (refused_on size asked began l.makes Receive l.left h)
+  item_test_since h (item_came l why stands) = by_standing _ stands (heard l) (refused_on size asked began l.makes Receive l.left h)
+
+  drained_test_since : RefusedSince size asked began Receive old → TestsDrained c old new → CallSince size asked began new
+  drained_test_since h (receiver_sleeps l undrained stands) = by_standing _ stands (signed l) (refused_on size asked began l.makes Receive l.left h, fallen Receiver l since.notes)
+  drained_test_since h (drained_meanwhile l why stands) = by_standing _ stands (heard l) (refused_on size asked began l.makes Receive l.left h)
+
+  -- a refused call claims again
+  waits_again : (w : Wish T) → RefusedSince size asked began w new → WaitsSince size asked began w new
+  waits_again w h = by asked w h
+    where
+      by : (a : Asked T) (w : Wish T) → RefusedSince size a began w new → WaitsSince size a began w new
+      by (Sending x) (Send y) p = (p.0, inr p.1)
+      by (Sending x) Receive p = absurd p
+      by Receiving (Send y) p = absurd p
+      by Receiving Receive p = inr p
+      by Closing w p = absurd p
+
+  own_since : (w : Wish T) (was_set : Bool) → RefusedSince size asked began w old → TakesBit size (role_of w) was_set old.queue new.queue → new.standing ≡ with_next (Claiming w) s → CallSince size asked began new
+  own_since w true h l stands = by_standing _ stands (signed l) (waits_again w (refused_on size asked began l.makes w l.left h))
+  own_since w false h l stands = by_standing _ stands (signed l) (waits_again w (refused_on size asked began l.makes w l.left h))
+
+  -- nothing but the standing changes
+  only_since : (next : Next T) → OnlyStands c old new (with_next next s) → SinceAt size next asked began old → CallSince size asked began new
+  only_since next m h = by_standing _ m.stands (subst (NotesMore began.queue) (sym m.same) since.notes) (subst (λ (q : SleeperInfo T). SinceAt size next asked began (record old { queue = q })) (sym m.same) h)
+
+  shut_since : ShutsSince size asked began old → ShutsQueue c old new → CallSince size asked began new
+  shut_since h m = by_standing _ m.stands (called m.calls) (by asked m.was_open h m.shuts)
+    where
+      by : (a : Asked T) (was_open : Bool) → ShutsSince size a began old → ShutsAs size was_open old.queue.seat new.queue.seat → EndsAs size a (if was_open then outcome.Closed else outcome.WasClosed) began new
+      by (Sending y) was_open p h = absurd p
+      by Receiving was_open p h = absurd p
+      by Closing true p h = record { shut = new.queue.seat; shuts = subst (λ (q : SeatInfo (Mark T)). ShutsAs size true q new.queue.seat) p h; looks = inl refl }
+      by Closing false p h = record { shut = new.queue.seat; shuts = subst (λ (q : SeatInfo (Mark T)). ShutsAs size false q new.queue.seat) p h; looks = inl refl }
+
+  next_since : (x : Next T) (r : ChannelStep T) → s.next ≡ x → SinceAt size x asked began old → MovesNext c old new x r → StepsTo size asked began new r
+  next_since Idle r is h m = absurd m
+  next_since (Claiming (Send x)) GoesOn is h m = room_since x h m
+  next_since (Claiming Receive) GoesOn is h m = item_since h m
+  next_since (Claiming w) NotYet is h m = absurd m
+  next_since (Claiming w) Sleeps is h m = absurd m
+  next_since (Claiming w) (Wakes k) is h m = absurd m
+  next_since (Claiming w) (Ends o) is h m = absurd m
+  next_since Inserting GoesOn is h m = filled_since h m
+  next_since Inserting NotYet is h m = room_waits_since is h m
+  next_since Inserting Sleeps is h m = absurd m
+  next_since Inserting (Wakes k) is h m = absurd m
+  next_since Inserting (Ends o) is h m = absurd m
+  next_since Deleting GoesOn is h m = taken_since h m
+  next_since Deleting NotYet is h m = item_waits_since is h m
+  next_since Deleting Sleeps is h m = absurd m
+  next_since Deleting (Wakes k) is h m = absurd m
+  next_since Deleting (Ends o) is h m = absurd m
+  next_since Checking GoesOn is h m = empty_since h m
+  next_since Checking NotYet is h m = absurd m
+  next_since Checking Sleeps is h m = absurd m
+  next_since Checking (Wakes k) is h m = absurd m
+  next_since Checking (Ends o) is h m = absurd m
+  next_since (Registering w) GoesOn is h m = by_standing _ m.stands (signed m.signs) (refused_on size asked began m.signs.makes w m.signs.left h)
+  next_since (Registering w) NotYet is h m = absurd m
+  next_since (Registering w) Sleeps is h m = absurd m
+  next_since (Registering w) (Wakes k) is h m = absurd m
+  next_since (Registering w) (Ends o) is h m = absurd m
+  next_since (Testing (Send x)) GoesOn is h m = room_test_since x h m
+  next_since (Testing Receive) GoesOn is h m = item_test_since h m
+  next_since (Testing w) NotYet is h m = absurd m
+  next_since (Testing w) Sleeps is h m = absurd m
+  next_since (Testing w) (Wakes k) is h m = absurd m
+  next_since (Testing w) (Ends o) is h m = absurd m
+  next_since TestingDrained GoesOn is h m = drained_test_since h m
+  next_since TestingDrained NotYet is h m = absurd m
+  next_since TestingDrained Sleeps is h m = absurd m
+  next_since TestingDrained (Wakes k) is h m = absurd m
+  next_since TestingDrained (Ends o) is h m = absurd m
+  next_since (TakingBack w) GoesOn is h m = own_since w m.was_set h m.takes m.stands
+  next_since (TakingBack w) NotYet is h m = absurd m
+  next_since (TakingBack w) Sleeps is h m = absurd m
+  next_since (TakingBack w) (Wakes k) is h m = absurd m
+  next_since (TakingBack w) (Ends o) is h m = absurd m
+  next_since (Sleeping w) GoesOn is h m = own_since w false h.0 m.signs m.stands
+  next_since (Sleeping w) NotYet is h m = absurd m
+  next_since (Sleeping w) Sleeps is h m =
+      by_standing s m.stands (heard m.hears) (subst (λ (x : Next T). SinceAt size x asked began new) (sym is) (refused_on size asked began m.hears.makes w m.hears.left h.0, sleeps_on (role_of w) m.hears h.1))
+  next_since (Sleeping w) (Wakes k) is h m = absurd m
+  next_since (Sleeping w) (Ends o) is h m = absurd m
+  next_since (Refusing w) GoesOn is h m = absurd m
+  next_since (Refusing w) NotYet is h m = absurd m
+  next_since (Refusing w) Sleeps is h m = only_since (Refused w) m h
+  next_since (Refusing w) (Wakes k) is h m = absurd m
+  next_since (Refusing w) (Ends o) is h m = absurd m
+  next_since (Refused w) GoesOn is h m = only_since (Claiming w) m (by asked w h)
+    where
+      by : (a : Asked T) (w : Wish T) → RefusedSince size a began w old → WaitsSince size a began w old
+      by (Sending x) (Send y) p = (p.0, inr p.1)
+      by (Sending x) Receive p = absurd p
+      by Receiving (Send y) p = absurd p
+      by Receiving Receive p = inr p
+      by Closing w p = absurd p
+  next_since (Refused w) NotYet is h m = absurd m
+  next_since (Refused w) Sleeps is h m = absurd m
+  next_since (Refused w) (Wakes k) is h m = absurd m
+  next_since (Refused w) (Ends o) is h m = absurd m
+  next_since Shutting GoesOn is h m = shut_since h m
+  next_since Shutting NotYet is h m = absurd m
+  next_since Shutting Sleeps is h m = absurd m
+  next_since Shutting (Wakes k) is h m = absurd m
+  next_since Shutting (Ends o) is h m = absurd m
+  next_since (Ending o) GoesOn is h m = absurd m
+  next_since (Ending o) NotYet is h m = absurd m
+  next_since (Ending o) Sleeps is h m = absurd m
+  next_since (Ending o) (Wakes k) is h m = absurd m
+  next_since (Ending o) (Ends p) is h m =
+      subst (λ (v : Outcome T). EndsAs size asked v began new) (sym m.0) (subst (λ (q : SleeperInfo T). EndsAs size asked o began (record old { queue = q })) (sym m.1.same) h)
+
+-- a step of a call adds to what the call has done
+pub moved_since : {T : Type 0} (c : Channel T) {old new : ChannelSeat T} → IsStepSeatOf c old → (r : ChannelStep T) → Moves c old new r → (asked : Asked T) (began : ChannelSeat T) → CallSince c.queue.size asked began old → StepsTo c.queue.size asked began new r
+moved_since {T} c {old} {new} S r m asked began since = by old.standing.senders.is_owed old.standing.receivers.is_owed old.standing.checks refl refl refl m
+  where
+    by : (a b d : Bool) → old.standing.senders.is_owed ≡ a → old.standing.receivers.is_owed ≡ b → old.standing.checks ≡ d → MovesBy c old new (if a then Look Sender else (if b then Look Receiver else (if d then Check else None_owed))) r → StepsTo c.queue.size asked began new r
+    by true b d ea eb ed m = looks_since c asked began since S.next Sender old.standing.senders.found r ea m
+    by false true d ea eb ed m = looks_since c asked began since S.next Receiver old.standing.receivers.found r eb m
+    by false false true ea eb ed m = check_since c asked began since S.next r ed m
+    by false false false ea eb ed m = next_since c asked began since old.standing.next r refl since.since m
