@@ -2,3 +2,4 @@ pub mod Covering
 pub mod Transitions
 pub mod Marking
 pub mod CallSteps
+pub mod Following

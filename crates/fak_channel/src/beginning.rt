@@ -30,7 +30,7 @@ impl<T: Drop> Channel<T> {
             return Err(SendFault::Worn { item });
         }
         seat.standing.tries = is_try;
-        seat.standing.next = Next::Claiming(Wish::Send(item));
+        seat.standing.set_next(Next::Claiming(Wish::Send(item)));
         Ok(())
     }
 
@@ -50,7 +50,7 @@ impl<T: Drop> Channel<T> {
             return Err(ReceiveFault::Worn);
         }
         seat.standing.tries = is_try;
-        seat.standing.next = Next::Claiming(Wish::Receive);
+        seat.standing.set_next(Next::Claiming(Wish::Receive));
         Ok(())
     }
 
@@ -97,7 +97,7 @@ impl<T: Drop> Channel<T> {
         ensures never_fails { IsOk result }
     {
         seat.standing.tries = false;
-        seat.standing.next = Next::Shutting;
+        seat.standing.set_next(Next::Shutting);
         Ok(())
     }
 

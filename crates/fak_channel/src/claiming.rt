@@ -52,18 +52,23 @@ impl<T: Drop> Channel<T> {
         ensures { MovesNext self.now (at_next (Claiming (Send item)) seat.old) seat.new (Claiming (Send item)) (step_of result) }
     {
         match seat.queue.claim_insert(&self.queue, item) {
-            Ok(_) => seat.standing.next = Next::Inserting,
+            Ok(_) => {
+                seat.standing.set_next(Next::Inserting);
+                Progress::GoesOn
+            }
             Err(InsertFault::Full { upper: _, item }) => {
                 seat.standing.owe_for_room(self.ends);
-                seat.standing.next = seat.standing.refused(Wish::Send(item));
+                let next = seat.standing.refused(Wish::Send(item));
+                seat.standing.set_next(next);
+                Progress::GoesOn
             }
             Err(InsertFault::Closed { item }) => {
                 seat.standing.owe_for_room(self.ends);
-                seat.standing.next = Next::Ending(Outcome::Refused(item));
+                seat.standing.set_next(Next::Ending(Outcome::Refused(item)));
+                Progress::GoesOn
             }
             Err(InsertFault::Worn { item: _ }) => unreachable!(),
         }
-        Progress::GoesOn
     }
 
     /// Claims an item. A claim that is refused may have been withdrawn: so a look for a receiver is owed.
@@ -74,14 +79,17 @@ impl<T: Drop> Channel<T> {
         ensures { MovesNext self.now (at_next (Claiming Receive) seat.old) seat.new (Claiming Receive) (step_of result) }
     {
         match seat.queue.claim_delete(&self.queue) {
-            Ok(_) => seat.standing.next = Next::Deleting,
+            Ok(_) => {
+                seat.standing.set_next(Next::Deleting);
+                Progress::GoesOn
+            }
             Err(DeleteFault::Empty(_)) => {
                 seat.standing.owe_for_item(self.ends);
-                seat.standing.next = Next::Checking;
+                seat.standing.set_next(Next::Checking);
+                Progress::GoesOn
             }
             Err(DeleteFault::Worn) => unreachable!(),
         }
-        Progress::GoesOn
     }
 
     /// Moves the item into its cell, if it is the cell's turn. Then an item is there for a receiver.
@@ -93,12 +101,12 @@ impl<T: Drop> Channel<T> {
     {
         match seat.queue.try_fill(&self.queue) {
             None => {
-                seat.standing.next = Next::Inserting;
+                seat.standing.set_next(Next::Inserting);
                 Progress::NotYet
             }
             Some(_) => {
                 seat.standing.owe_for_item(self.ends);
-                seat.standing.next = Next::Ending(Outcome::Sent);
+                seat.standing.set_next(Next::Ending(Outcome::Sent));
                 Progress::GoesOn
             }
         }
@@ -114,12 +122,13 @@ impl<T: Drop> Channel<T> {
     {
         match seat.queue.try_take(&self.queue) {
             None => {
-                seat.standing.next = Next::Deleting;
+                seat.standing.set_next(Next::Deleting);
                 Progress::NotYet
             }
             Some((_, item)) => {
                 seat.standing.owe_for_room(self.ends);
-                seat.standing.next = Next::Ending(Outcome::Received(item));
+                seat.standing
+                    .set_next(Next::Ending(Outcome::Received(item)));
                 Progress::GoesOn
             }
         }
@@ -136,11 +145,12 @@ impl<T: Drop> Channel<T> {
         if seat.queue.check_drained(&self.queue) {
             seat.standing.owe_for_item(self.ends);
             seat.standing.checks = false;
-            seat.standing.next = Next::Ending(Outcome::Drained);
+            seat.standing.set_next(Next::Ending(Outcome::Drained));
             return Progress::GoesOn;
         }
         seat.standing.checks = false;
-        seat.standing.next = seat.standing.refused(Wish::Receive);
+        let next = seat.standing.refused(Wish::Receive);
+        seat.standing.set_next(next);
         Progress::GoesOn
     }
 
@@ -153,11 +163,11 @@ impl<T: Drop> Channel<T> {
     {
         if seat.queue.shut(&self.queue) {
             seat.standing.owe_for_room(self.ends);
-            seat.standing.next = Next::Ending(Outcome::Closed);
+            seat.standing.set_next(Next::Ending(Outcome::Closed));
             return Progress::GoesOn;
         }
         seat.standing.owe_for_room(self.ends);
-        seat.standing.next = Next::Ending(Outcome::WasClosed);
+        seat.standing.set_next(Next::Ending(Outcome::WasClosed));
         Progress::GoesOn
     }
 }

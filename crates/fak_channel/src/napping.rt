@@ -36,7 +36,7 @@ impl<T: Drop> Channel<T> {
         ensures { MovesNext self.now (at_next (Registering wish) seat.old) seat.new (Registering wish) (step_of result) }
     {
         seat.queue.set_bit(&self.queue, wish.role());
-        seat.standing.next = Next::Testing(wish);
+        seat.standing.set_next(Next::Testing(wish));
         Progress::GoesOn
     }
 
@@ -48,26 +48,39 @@ impl<T: Drop> Channel<T> {
         requires stage { StageFor (Send item) Registered (account_of_seat seat.old.queue) }
         ensures { MovesNext self.now (at_next (Testing (Send item)) seat.old) seat.new (Testing (Send item)) (step_of result) }
     {
-        seat.standing.next = match seat.queue.test_room_again(&self.queue) {
-            Ok(()) => Next::TakingBack(Wish::Send(item)),
-            Err(NoRoom::Shut) => Next::TakingBack(Wish::Send(item)),
-            Err(NoRoom::Full(_)) => Next::Sleeping(Wish::Send(item)),
-        };
-        Progress::GoesOn
+        match seat.queue.test_room_again(&self.queue) {
+            Ok(()) => {
+                seat.standing.set_next(Next::TakingBack(Wish::Send(item)));
+                Progress::GoesOn
+            }
+            Err(NoRoom::Shut) => {
+                seat.standing.set_next(Next::TakingBack(Wish::Send(item)));
+                Progress::GoesOn
+            }
+            Err(NoRoom::Full(_)) => {
+                seat.standing.set_next(Next::Sleeping(Wish::Send(item)));
+                Progress::GoesOn
+            }
+        }
     }
 
     /// The second test of a receiver. If there is an item, the own bit is to be cleared.
     pub(crate) fn test_item(&self, seat: &mut ChannelSeat<T>) -> Progress<T>
         requires object { seat.old.queue.seat.object ≡ self.now.queue.object }
         requires may { MayClaim seat.old.queue }
-        requires stage { StageFor Receive Registered (account_of_seat seat.old.queue) }
+        requires stage { StagesAre Awake Registered (account_of_seat seat.old.queue) }
         ensures { MovesNext self.now (at_next (Testing Receive) seat.old) seat.new (Testing Receive) (step_of result) }
     {
-        seat.standing.next = match seat.queue.test_item_again(&self.queue) {
-            Ok(()) => Next::TakingBack(Wish::Receive),
-            Err(_) => Next::TestingDrained,
-        };
-        Progress::GoesOn
+        match seat.queue.test_item_again(&self.queue) {
+            Ok(()) => {
+                seat.standing.set_next(Next::TakingBack(Wish::Receive));
+                Progress::GoesOn
+            }
+            Err(_) => {
+                seat.standing.set_next(Next::TestingDrained);
+                Progress::GoesOn
+            }
+        }
     }
 
     /// The rest of the second test of a receiver. If the channel is drained, the own bit is to be cleared. Otherwise the
@@ -78,7 +91,7 @@ impl<T: Drop> Channel<T> {
         requires stage { StagesAre Awake PastLower (account_of_seat seat.old.queue) }
         ensures { MovesNext self.now (at_next TestingDrained seat.old) seat.new TestingDrained (step_of result) }
     {
-        seat.standing.next = if seat.queue.test_drained_again(&self.queue) {
+        if seat.queue.test_drained_again(&self.queue) {
             Next::TakingBack(Wish::Receive)
         } else {
             Next::Sleeping(Wish::Receive)
@@ -95,7 +108,7 @@ impl<T: Drop> Channel<T> {
         ensures { MovesNext self.now (at_next (TakingBack wish) seat.old) seat.new (TakingBack wish) (step_of result) }
     {
         let _was_set = seat.queue.take_back(&self.queue, wish.role());
-        seat.standing.next = Next::Claiming(wish);
+        seat.standing.set_next(Next::Claiming(wish));
         Progress::GoesOn
     }
 
@@ -107,10 +120,10 @@ impl<T: Drop> Channel<T> {
         ensures { MovesNext self.now (at_next (Sleeping wish) seat.old) seat.new (Sleeping wish) (step_of result) }
     {
         if seat.queue.see_bit(&self.queue, wish.role()) {
-            seat.standing.next = Next::Sleeping(wish);
+            seat.standing.set_next(Next::Sleeping(wish));
             return Progress::Sleeps;
         }
-        seat.standing.next = Next::Claiming(wish);
+        seat.standing.set_next(Next::Claiming(wish));
         Progress::GoesOn
     }
 
@@ -123,10 +136,10 @@ impl<T: Drop> Channel<T> {
         ensures { GivesUpSleep self.now (at_next (Sleeping wish) seat.old) seat.new wish result }
     {
         if seat.queue.take_back(&self.queue, wish.role()) {
-            seat.standing.next = Next::Idle;
+            seat.standing.set_next(Next::Idle);
             return Some(wish);
         }
-        seat.standing.next = Next::Claiming(wish);
+        seat.standing.set_next(Next::Claiming(wish));
         None
     }
 }

@@ -1,5 +1,7 @@
 //! How far the open call of a seat has come, and the results of its steps.
 
+use std::mem;
+
 /// What a call wants that may wait.
 #[derive(Clone, Copy, Debug, PartialEq, Eq, Drop)]
 pub enum Wish<T> {
@@ -152,5 +154,17 @@ impl<T> CallStanding<T> {
             | Next::Shutting
             | Next::Ending(_) => ChannelState::Open,
         }
+    }
+}
+
+impl<T: Drop> CallStanding<T> {
+    ghost use Rattle.std.specs.Prelude.{◌≡◌};
+    ghost use Rattle.fak_channel.specs.Moves.{with_next};
+
+    /// Sets what comes next.
+    pub(crate) fn set_next(&mut self, next: Next<T>)
+        ensures { self.new ≡ with_next next self.old }
+    {
+        drop(mem::replace(&mut self.next, next));
     }
 }

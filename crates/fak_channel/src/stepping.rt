@@ -55,11 +55,11 @@ impl<T: Drop> Channel<T> {
             Next::TakingBack(wish) => self.take_back(seat, wish),
             Next::Sleeping(wish) => self.sleep(seat, wish),
             Next::Refusing(wish) => {
-                seat.standing.next = Next::Refused(wish);
+                seat.standing.set_next(Next::Refused(wish));
                 Progress::Sleeps
             }
             Next::Refused(wish) => {
-                seat.standing.next = Next::Claiming(wish);
+                seat.standing.set_next(Next::Claiming(wish));
                 Progress::GoesOn
             }
             Next::Shutting => self.shut(seat),
