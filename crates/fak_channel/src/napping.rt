@@ -92,10 +92,10 @@ impl<T: Drop> Channel<T> {
         ensures { MovesNext self.now (at_next TestingDrained seat.old) seat.new TestingDrained (step_of result) }
     {
         if seat.queue.test_drained_again(&self.queue) {
-            Next::TakingBack(Wish::Receive)
-        } else {
-            Next::Sleeping(Wish::Receive)
-        };
+            seat.standing.set_next(Next::TakingBack(Wish::Receive));
+            return Progress::GoesOn;
+        }
+        seat.standing.set_next(Next::Sleeping(Wish::Receive));
         Progress::GoesOn
     }
 
