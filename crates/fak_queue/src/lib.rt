@@ -54,12 +54,10 @@ pub use fak_model::{
     LARGE_SEATS, LARGE_SIZE, LARGE_TICKETS, LARGEST_SIZE, LONGEST_STINT, LargeFault, MOST_SEATS,
 };
 pub use fault::{BundleFault, BurstFault, DeleteFault, InsertFault, OpenFault};
-pub use found::NoRoom;
 pub use in_use::InUse;
 pub use port::Port;
 pub use queue::Queue;
 pub use rest::Rest;
-pub use role::Role;
 pub use seat::Seat;
 pub use state::SeatState;
 pub use tally::Tally;
