@@ -10,6 +10,8 @@
 //! - `Bundle::of(alloc, &queue, seats)` is several seats that call together: `insert_burst` and `delete_burst` claim for several
 //!   items at once, and have forms that wait, and forms that never do.
 //! - `shut` refuses later insertions; deletions go on. `cells_in_use`, `items_ready` and `is_drained` observe the counts.
+//! - `Queue::open_sleepers` opens a queue whose seats can sleep: a `SleeperSeat` also has the steps of a channel's end on the bits of
+//!   sleepers in the queue's table.
 //! - `Tally::of(seat)` and `Queue::join` bring the seats back together; with all of them `Queue::close` returns a `Rest`, what is left.
 //! - Callers owe that a seat belongs to this queue and is idle: `IsIdleSeat queue.now.object seat`.
 //! - To cite: `Inserts`, `Deletes` and their like (`specs/Queues.antt`, `specs/Retries.antt`), and the laws of `fak_model::laws`.
@@ -32,6 +34,8 @@ pub mod laws;
 mod limits;
 mod observing;
 mod opening;
+mod parts;
+mod parts_calls;
 mod place;
 mod plays;
 mod port;
@@ -41,11 +45,15 @@ mod resting;
 mod role;
 mod rule;
 mod seat;
+mod sleeper_calls;
+mod sleeper_seat;
+mod sleeper_steps;
 mod standing;
 mod state;
 mod steps;
 mod tally;
 mod turns;
+mod undealt;
 mod words;
 
 pub use bundle::{Bundle, BundleState};
@@ -61,5 +69,7 @@ pub use queue::Queue;
 pub use rest::Rest;
 pub use role::Role;
 pub use seat::Seat;
+pub use sleeper_seat::SleeperSeat;
 pub use state::SeatState;
 pub use tally::Tally;
+pub use undealt::UndealtSeats;
