@@ -15,7 +15,7 @@ use Rattle.fak_queue.specs.declared.role.Role.{Role}
 use Rattle.fak_queue.specs.declared.role.Role.TheVariants.{Sender, Receiver}
 use Rattle.fak_queue.specs.declared.state.SeatState.TheVariants as at
 use Rattle.fak_queue.proofs.Accounts.{kinds_after}
-use Rattle.fak_channel.specs.SleeperSeats.{SleeperInfo, account_of_seat, AddsNote, AddsNoNote, LeavesNoMark, TakesBit, ChecksDrained, note_of}
+use Rattle.fak_queue.specs.SleeperSeats.{SleeperInfo, account_of_seat, AddsNote, AddsNoNote, LeavesNoMark, TakesBit, ChecksDrained, note_of}
 use Rattle.fak_channel.specs.declared.channel.Channel.{Channel}
 use Rattle.fak_channel.specs.declared.seat.ChannelSeat.{ChannelSeat}
 use Rattle.fak_channel.specs.declared.standing.CallStanding.{CallStanding}
@@ -37,42 +37,44 @@ use Rattle.fak_channel.proofs.Marking.{looked_more, full_again, full_more, empty
 
 -- ---- notes
 
-notes_on : {T : Type 0} {old mid new : SleeperInfo T} (x : Note) → new.notes ≡ x ∷ mid.notes → NotesMore old mid → NotesMore old new
-notes_on x is m = (x ∷ m.0, is ∙ ap (λ l. x ∷ l) m.1)
+module _ {T : Type 0} (old mid new : SleeperInfo T) where
+  notes_on : (x : Note) → new.notes ≡ x ∷ mid.notes → NotesMore old mid → NotesMore old new
+  notes_on x is m = (x ∷ m.0, is ∙ ap (λ (l : List Note). x ∷ l) m.1)
 
-notes_same : {T : Type 0} {old mid new : SleeperInfo T} → new.notes ≡ mid.notes → NotesMore old mid → NotesMore old new
-notes_same is m = (m.0, is ∙ m.1)
+  notes_same : new.notes ≡ mid.notes → NotesMore old mid → NotesMore old new
+  notes_same is m = (m.0, is ∙ m.1)
 
--- a step that leaves no mark leaves the number of marks
-marks_same : {T : Type 0} {size : ℕ} {old new : SleeperInfo T} → Makes size [] old.seat new.seat → marks_by new.seat ≡ marks_by old.seat
-marks_same {T} {size} {old} {new} makes = ap length (kinds_after size [] old.seat new.seat makes)
+module _ {T : Type 0} (old new : SleeperInfo T) where
+  -- a step that leaves no mark leaves the number of marks, so a note of this kind would be the same
+  note_same : {size : ℕ} (k : NoteKind) → Makes size [] old.seat new.seat → note_of k old ≡ note_of k new
+  note_same {size} k makes =
+      let same : marks_by new.seat ≡ marks_by old.seat = ap length (kinds_after size [] old.seat new.seat makes) in
+      ap (λ (n : ℕ). let x : Note = record { kind = k; after = n } in x) (sym same)
 
-note_same : {T : Type 0} {old new : SleeperInfo T} (k : NoteKind) → marks_by new.seat ≡ marks_by old.seat → note_of k old ≡ note_of k new
-note_same k same = ap (λ (n : ℕ). let x : Note = record { kind = k; after = n } in x) (sym same)
+module _ {T : Type 0} {size : ℕ} (role : Role) {began old new : SleeperInfo T} where
+  note_kept : (k : NoteKind) (rest : List Note) → Makes size [] old.seat new.seat → note_of k old ∷ rest ≡ note_of k new ∷ rest
+  note_kept k rest makes = ap (λ (x : Note). x ∷ rest) (note_same old new k makes)
 
--- it falls asleep
-fallen : {T : Type 0} {size : ℕ} (role : Role) {began old new : SleeperInfo T} → AddsNote size (as_role role FallsAsleep) old new → NotesMore began old → HasFallenAsleep role began new
-fallen role {began} {old} {new} l m = record {
-  more = m.0;
-  notes = l.notes_are ∙ (ap (λ (x : Note). x ∷ old.notes) (note_same (as_role role FallsAsleep) (marks_same l.makes)) ∙ ap (λ (rest : List Note). note_of (as_role role FallsAsleep) new ∷ rest) m.1);
-}
+  -- it falls asleep
+  fallen : AddsNote size (as_role role FallsAsleep) old new → NotesMore began old → HasFallenAsleep role began new
+  fallen l m = record {
+    more = m.0;
+    notes = l.notes_are ∙ (note_kept (as_role role FallsAsleep) old.notes l.makes ∙ ap (λ (rest : List Note). note_of (as_role role FallsAsleep) new ∷ rest) m.1);
+  }
 
--- it still sleeps
-sleeps_on : {T : Type 0} {size : ℕ} (role : Role) {began old new : SleeperInfo T} → AddsNoNote size old new → HasFallenAsleep role began old → HasFallenAsleep role began new
-sleeps_on role {began} {old} {new} l h = record {
-  more = h.more;
-  notes = l.notes_are ∙ (h.notes ∙ ap (λ (x : Note). x ∷ (h.more ++ began.notes)) (note_same (as_role role FallsAsleep) (marks_same l.makes)));
-}
+  -- it still sleeps
+  sleeps_on : AddsNoNote size old new → HasFallenAsleep role began old → HasFallenAsleep role began new
+  sleeps_on l h = record { more = h.more; notes = l.notes_are ∙ (h.notes ∙ note_kept (as_role role FallsAsleep) (h.more ++ began.notes) l.makes) }
 
--- it takes its bit back
-pub taken_back : {T : Type 0} {size : ℕ} (role : Role) {began old new : SleeperInfo T} → AddsNote size (as_role role TakesBack) old new → HasFallenAsleep role began old → HasTakenBack role began new
-taken_back role {began} {old} {new} l h = record {
-  more = h.more;
-  notes = l.notes_are ∙ (ap (λ (x : Note). x ∷ old.notes) (note_same (as_role role TakesBack) (marks_same l.makes))
-      ∙ ap (λ (rest : List Note). note_of (as_role role TakesBack) new ∷ rest) (h.notes ∙ ap (λ (x : Note). x ∷ (h.more ++ began.notes)) (note_same (as_role role FallsAsleep) (marks_same l.makes))));
-}
+  -- it takes its bit back
+  pub taken_back : AddsNote size (as_role role TakesBack) old new → HasFallenAsleep role began old → HasTakenBack role began new
+  taken_back l h = record {
+    more = h.more;
+    notes = l.notes_are ∙ (note_kept (as_role role TakesBack) old.notes l.makes
+        ∙ ap (λ (rest : List Note). note_of (as_role role TakesBack) new ∷ rest) (h.notes ∙ note_kept (as_role role FallsAsleep) (h.more ++ began.notes) l.makes));
+  }
 
-module _ {T : Type 0} (size : ℕ) (asked : Asked T) (began : ChannelSeat T) {old new : ChannelSeat T} where
+module _ {T : Type 0} (size : ℕ) (asked : Asked T) (began old new : ChannelSeat T) where
   -- ---- steps that leave no mark
 
   module _ (makes : Makes size [] old.queue.seat new.queue.seat) where
@@ -113,28 +115,28 @@ module _ {T : Type 0} (size : ℕ) (asked : Asked T) (began : ChannelSeat T) {ol
         by Closing outcome.WasClosed p = record { shut = p.shut; shuts = p.shuts; looks = looked_more p.looks makes }
 
     -- while a debt is paid
-    owing_since : (n : Next T) {s : CallStanding T} {q : SleeperInfo T} {g : Account} → drawn_by new.queue.seat ≡ drawn_by old.queue.seat → (OwesNone s → ⊥) → StandsSo n s q g → SinceAt size n asked began old → SinceAt size n asked began new
-    owing_since Idle drawn owes so h = absurd (owes so.none)
-    owing_since (Claiming w) drawn owes so h = absurd (owes so.none)
-    owing_since Inserting drawn owes so h = absurd (owes so.none)
-    owing_since Deleting drawn owes so h = absurd (owes so.none)
-    owing_since Checking drawn owes so h = refused_on Receive drawn h
-    owing_since (Registering w) drawn owes so h = refused_on w drawn h
-    owing_since (Testing w) drawn owes so h = absurd (owes so.stands.none)
-    owing_since TestingDrained drawn owes so h = absurd (owes so.stands.none)
-    owing_since (TakingBack w) drawn owes so h = absurd (owes so.stands.none)
-    owing_since (Sleeping w) drawn owes so h = absurd (owes so.stands.none)
-    owing_since (Refusing w) drawn owes so h = refused_on w drawn h
-    owing_since (Refused w) drawn owes so h = absurd (owes so.stands.none)
-    owing_since Shutting drawn owes so h = absurd (owes so.none)
-    owing_since (Ending o) drawn owes so h = ended_on o h
+    owing_since : (n : Next T) (s : CallStanding T) (q : SleeperInfo T) (g : Account) → drawn_by new.queue.seat ≡ drawn_by old.queue.seat → (OwesNone s → ⊥) → StandsSo n s q g → SinceAt size n asked began old → SinceAt size n asked began new
+    owing_since Idle s q g drawn owes so h = absurd (owes so.none)
+    owing_since (Claiming w) s q g drawn owes so h = absurd (owes so.none)
+    owing_since Inserting s q g drawn owes so h = absurd (owes so.none)
+    owing_since Deleting s q g drawn owes so h = absurd (owes so.none)
+    owing_since Checking s q g drawn owes so h = refused_on Receive drawn h
+    owing_since (Registering w) s q g drawn owes so h = refused_on w drawn h
+    owing_since (Testing w) s q g drawn owes so h = absurd (owes so.stands.none)
+    owing_since TestingDrained s q g drawn owes so h = absurd (owes so.stands.none)
+    owing_since (TakingBack w) s q g drawn owes so h = absurd (owes so.stands.none)
+    owing_since (Sleeping w) s q g drawn owes so h = absurd (owes so.stands.none)
+    owing_since (Refusing w) s q g drawn owes so h = refused_on w drawn h
+    owing_since (Refused w) s q g drawn owes so h = absurd (owes so.stands.none)
+    owing_since Shutting s q g drawn owes so h = absurd (owes so.none)
+    owing_since (Ending o) s q g drawn owes so h = ended_on o h
 
 -- ---- the steps
 
 both_of : {A : Type 0} {b : Bool} → b ≡ true → b ≡ false → A
-both_of {A} {b} yes none_is = absurd (let f : true ≡ false = sym yes ∙ none_is in cc)
+both_of {A} {b} is is_not = absurd (let f : true ≡ false = sym is ∙ is_not in cc)
 
-module _ {T : Type 0} (c : Channel T) (asked : Asked T) (began : ChannelSeat T) {old new : ChannelSeat T} (since : CallSince c.queue.size asked began old) where
+module _ {T : Type 0} (c : Channel T) (asked : Asked T) (began old new : ChannelSeat T) (since : CallSince c.queue.size asked began old) where
   abbrev size : ℕ
   size = c.queue.size
 
@@ -146,32 +148,32 @@ module _ {T : Type 0} (c : Channel T) (asked : Asked T) (began : ChannelSeat T) 
   by_standing after stands notes h = record { notes = notes; since = subst (λ (t : CallStanding T). SinceAt size t.next asked began new) (sym stands) h }
 
   signed : {k : NoteKind} → AddsNote size k old.queue new.queue → NotesMore began.queue new.queue
-  signed {k} l = notes_on (note_of k old.queue) l.notes_are since.notes
+  signed {k} l = notes_on began.queue old.queue new.queue (note_of k old.queue) l.notes_are since.notes
 
   heard : AddsNoNote size old.queue new.queue → NotesMore began.queue new.queue
-  heard l = notes_same l.notes_are since.notes
+  heard l = notes_same began.queue old.queue new.queue l.notes_are since.notes
 
   called : Calls size old.queue new.queue → NotesMore began.queue new.queue
-  called calls = notes_same calls.notes.notes since.notes
+  called calls = notes_same began.queue old.queue new.queue calls.notes.notes since.notes
 
   -- ---- debts
 
-  module _ {q : SleeperInfo T} {g : Account} (so : StandsSo s.next s q g) where
+  module _ (q : SleeperInfo T) (g : Account) (so : StandsSo s.next s q g) where
     look_since : (role : Role) → (looks_for role s).is_owed ≡ true → LoadsWord c.ends size role (looks_for role s) old new → CallSince size asked began new
-    look_since Sender owed (passes l stands) = by_standing _ stands (signed l) (owing_since size asked began l.makes s.next l.left (λ o. both_of owed o.senders) so since.since)
-    look_since Sender owed (goes_round l some stands) = by_standing _ stands (heard l) (owing_since size asked began l.makes s.next l.left (λ o. both_of owed o.senders) so since.since)
-    look_since Sender owed (finds k l same some stands) = by_standing _ stands (heard l) (owing_since size asked began l.makes s.next l.left (λ o. both_of owed o.senders) so since.since)
-    look_since Receiver owed (passes l stands) = by_standing _ stands (signed l) (owing_since size asked began l.makes s.next l.left (λ o. both_of owed o.receivers) so since.since)
-    look_since Receiver owed (goes_round l some stands) = by_standing _ stands (heard l) (owing_since size asked began l.makes s.next l.left (λ o. both_of owed o.receivers) so since.since)
-    look_since Receiver owed (finds k l same some stands) = by_standing _ stands (heard l) (owing_since size asked began l.makes s.next l.left (λ o. both_of owed o.receivers) so since.since)
+    look_since Sender owed (passes l stands) = by_standing _ stands (signed l) (owing_since size asked began old new l.makes s.next s q g l.left (λ o. both_of owed o.senders) so since.since)
+    look_since Sender owed (goes_round l some stands) = by_standing _ stands (heard l) (owing_since size asked began old new l.makes s.next s q g l.left (λ o. both_of owed o.senders) so since.since)
+    look_since Sender owed (finds k l same some stands) = by_standing _ stands (heard l) (owing_since size asked began old new l.makes s.next s q g l.left (λ o. both_of owed o.senders) so since.since)
+    look_since Receiver owed (passes l stands) = by_standing _ stands (signed l) (owing_since size asked began old new l.makes s.next s q g l.left (λ o. both_of owed o.receivers) so since.since)
+    look_since Receiver owed (goes_round l some stands) = by_standing _ stands (heard l) (owing_since size asked began old new l.makes s.next s q g l.left (λ o. both_of owed o.receivers) so since.since)
+    look_since Receiver owed (finds k l same some stands) = by_standing _ stands (heard l) (owing_since size asked began old new l.makes s.next s q g l.left (λ o. both_of owed o.receivers) so since.since)
 
     clear_since : (role : Role) (k : ℕ) (r : ChannelStep T) → (looks_for role s).is_owed ≡ true → ClearsBit c.ends size role (looks_for role s) old new k r → StepsTo size asked began new r
-    clear_since Sender k GoesOn owed m = by_standing _ m.1 (heard m.0) (owing_since size asked began m.0.makes s.next m.0.left (λ o. both_of owed o.senders) so since.since)
-    clear_since Receiver k GoesOn owed m = by_standing _ m.1 (heard m.0) (owing_since size asked began m.0.makes s.next m.0.left (λ o. both_of owed o.receivers) so since.since)
+    clear_since Sender k GoesOn owed m = by_standing _ m.1 (heard m.0) (owing_since size asked began old new m.0.makes s.next s q g m.0.left (λ o. both_of owed o.senders) so since.since)
+    clear_since Receiver k GoesOn owed m = by_standing _ m.1 (heard m.0) (owing_since size asked began old new m.0.makes s.next s q g m.0.left (λ o. both_of owed o.receivers) so since.since)
     clear_since role k NotYet owed m = absurd m
     clear_since role k Sleeps owed m = absurd m
-    clear_since Sender k (Wakes number) owed m = by_standing _ m.2 (signed m.1) (owing_since size asked began m.1.makes s.next m.1.left (λ o. both_of owed o.senders) so since.since)
-    clear_since Receiver k (Wakes number) owed m = by_standing _ m.2 (signed m.1) (owing_since size asked began m.1.makes s.next m.1.left (λ o. both_of owed o.receivers) so since.since)
+    clear_since Sender k (Wakes number) owed m = by_standing _ m.2 (signed m.1) (owing_since size asked began old new m.1.makes s.next s q g m.1.left (λ o. both_of owed o.senders) so since.since)
+    clear_since Receiver k (Wakes number) owed m = by_standing _ m.2 (signed m.1) (owing_since size asked began old new m.1.makes s.next s q g m.1.left (λ o. both_of owed o.receivers) so since.since)
     clear_since role k (Ends o) owed m = absurd m
 
     looks_since : (role : Role) (found : Option ℕ) (r : ChannelStep T) → (looks_for role s).is_owed ≡ true → LooksOnce c.ends size role (looks_for role s) old new found r → StepsTo size asked began new r
@@ -186,8 +188,8 @@ module _ {T : Type 0} (c : Channel T) (asked : Asked T) (began : ChannelSeat T) 
     check_since GoesOn owed m = by m.drained m.checks m.stands
       where
         by : (drained : Bool) → ChecksDrained size drained old.queue new.queue → new.standing ≡ _ → CallSince size asked began new
-        by true l stands = by_standing _ stands (signed l.0) (owing_since size asked began l.0.makes s.next l.0.left (λ o. both_of owed o.checks) so since.since)
-        by false l stands = by_standing _ stands (signed l.0) (owing_since size asked began l.0.makes s.next l.0.left (λ o. both_of owed o.checks) so since.since)
+        by true l stands = by_standing _ stands (signed l.0) (owing_since size asked began old new l.0.makes s.next s q g l.0.left (λ o. both_of owed o.checks) so since.since)
+        by false l stands = by_standing _ stands (signed l.0) (owing_since size asked began old new l.0.makes s.next s q g l.0.left (λ o. both_of owed o.checks) so since.since)
     check_since NotYet owed m = absurd m
     check_since Sleeps owed m = absurd m
     check_since (Wakes number) owed m = absurd m
@@ -270,25 +272,25 @@ module _ {T : Type 0} (c : Channel T) (asked : Asked T) (began : ChannelSeat T) 
       by Closing p = absurd p
 
   empty_since : RefusedSince size asked began Receive old → ChecksEmpty c old new → CallSince size asked began new
-  empty_since h (found_drained l stands) = by_standing _ stands (signed l.0) (by asked (refused_on size asked began l.0.makes Receive l.0.left h))
+  empty_since h (found_drained l stands) = by_standing _ stands (signed l.0) (by asked (refused_on size asked began old new l.0.makes Receive l.0.left h))
     where
       by : (a : Asked T) → RefusedSince size a began Receive new → EndsAs size a outcome.Drained began new
       by (Sending y) p = absurd p
       by Receiving p = record { found = new.queue.seat; empty = p; lawful = l.0.makes.lawful; drained = l.1; looks = inl refl }
       by Closing p = absurd p
-  empty_since h (found_none l stands) = by_standing _ stands (signed l.0) (refused_to Receive (refused_on size asked began l.0.makes Receive l.0.left h))
+  empty_since h (found_none l stands) = by_standing _ stands (signed l.0) (refused_to Receive (refused_on size asked began old new l.0.makes Receive l.0.left h))
 
   room_test_since : (x : T) → RefusedSince size asked began (Send x) old → TestsRoom c old new x → CallSince size asked began new
-  room_test_since x h (sender_sleeps upper l full stands) = by_standing _ stands (signed l) (refused_on size asked began l.makes (Send x) l.left h, fallen Sender l since.notes)
-  room_test_since x h (room_came l why stands) = by_standing _ stands (heard l) (refused_on size asked began l.makes (Send x) l.left h)
+  room_test_since x h (sender_sleeps upper l full stands) = by_standing _ stands (signed l) (refused_on size asked began old new l.makes (Send x) l.left h, fallen Sender l since.notes)
+  room_test_since x h (room_came l why stands) = by_standing _ stands (heard l) (refused_on size asked began old new l.makes (Send x) l.left h)
 
   item_test_since : RefusedSince size asked began Receive old → TestsItem c old new → CallSince size asked began new
-  item_test_since h (no_item_yet lower l empty stands) = by_standing _ stands (signed l) (refused_on size asked began l.makes Receive l.left h)
-  item_test_since h (item_came l why stands) = by_standing _ stands (heard l) (refused_on size asked began l.makes Receive l.left h)
+  item_test_since h (no_item_yet lower l empty stands) = by_standing _ stands (signed l) (refused_on size asked began old new l.makes Receive l.left h)
+  item_test_since h (item_came l why stands) = by_standing _ stands (heard l) (refused_on size asked began old new l.makes Receive l.left h)
 
   drained_test_since : RefusedSince size asked began Receive old → TestsDrained c old new → CallSince size asked began new
-  drained_test_since h (receiver_sleeps l undrained stands) = by_standing _ stands (signed l) (refused_on size asked began l.makes Receive l.left h, fallen Receiver l since.notes)
-  drained_test_since h (drained_meanwhile l why stands) = by_standing _ stands (heard l) (refused_on size asked began l.makes Receive l.left h)
+  drained_test_since h (receiver_sleeps l undrained stands) = by_standing _ stands (signed l) (refused_on size asked began old new l.makes Receive l.left h, fallen Receiver l since.notes)
+  drained_test_since h (drained_meanwhile l why stands) = by_standing _ stands (heard l) (refused_on size asked began old new l.makes Receive l.left h)
 
   -- a refused call claims again
   waits_again : (w : Wish T) → RefusedSince size asked began w new → WaitsSince size asked began w new
@@ -302,8 +304,8 @@ module _ {T : Type 0} (c : Channel T) (asked : Asked T) (began : ChannelSeat T) 
       by Closing w p = absurd p
 
   own_since : (w : Wish T) (was_set : Bool) → RefusedSince size asked began w old → TakesBit size (role_of w) was_set old.queue new.queue → new.standing ≡ with_next (Claiming w) s → CallSince size asked began new
-  own_since w true h l stands = by_standing _ stands (signed l) (waits_again w (refused_on size asked began l.makes w l.left h))
-  own_since w false h l stands = by_standing _ stands (signed l) (waits_again w (refused_on size asked began l.makes w l.left h))
+  own_since w true h l stands = by_standing _ stands (signed l) (waits_again w (refused_on size asked began old new l.makes w l.left h))
+  own_since w false h l stands = by_standing _ stands (signed l) (waits_again w (refused_on size asked began old new l.makes w l.left h))
 
   -- nothing but the standing changes
   only_since : (next : Next T) → OnlyStands c old new (with_next next s) → SinceAt size next asked began old → CallSince size asked began new
@@ -341,7 +343,7 @@ module _ {T : Type 0} (c : Channel T) (asked : Asked T) (began : ChannelSeat T) 
   next_since Checking Sleeps is h m = absurd m
   next_since Checking (Wakes k) is h m = absurd m
   next_since Checking (Ends o) is h m = absurd m
-  next_since (Registering w) GoesOn is h m = by_standing _ m.stands (signed m.signs) (refused_on size asked began m.signs.makes w m.signs.left h)
+  next_since (Registering w) GoesOn is h m = by_standing _ m.stands (signed m.signs) (refused_on size asked began old new m.signs.makes w m.signs.left h)
   next_since (Registering w) NotYet is h m = absurd m
   next_since (Registering w) Sleeps is h m = absurd m
   next_since (Registering w) (Wakes k) is h m = absurd m
@@ -365,7 +367,7 @@ module _ {T : Type 0} (c : Channel T) (asked : Asked T) (began : ChannelSeat T) 
   next_since (Sleeping w) GoesOn is h m = own_since w false h.0 m.signs m.stands
   next_since (Sleeping w) NotYet is h m = absurd m
   next_since (Sleeping w) Sleeps is h m =
-      by_standing s m.stands (heard m.hears) (subst (λ (x : Next T). SinceAt size x asked began new) (sym is) (refused_on size asked began m.hears.makes w m.hears.left h.0, sleeps_on (role_of w) m.hears h.1))
+      by_standing s m.stands (heard m.hears) (subst (λ (x : Next T). SinceAt size x asked began new) (sym is) (refused_on size asked began old new m.hears.makes w m.hears.left h.0, sleeps_on (role_of w) m.hears h.1))
   next_since (Sleeping w) (Wakes k) is h m = absurd m
   next_since (Sleeping w) (Ends o) is h m = absurd m
   next_since (Refusing w) GoesOn is h m = absurd m
@@ -402,7 +404,7 @@ pub moved_since : {T : Type 0} (c : Channel T) {old new : ChannelSeat T} → IsS
 moved_since {T} c {old} {new} S r m asked began since = by old.standing.senders.is_owed old.standing.receivers.is_owed old.standing.checks refl refl refl m
   where
     by : (a b d : Bool) → old.standing.senders.is_owed ≡ a → old.standing.receivers.is_owed ≡ b → old.standing.checks ≡ d → MovesBy c old new (if a then Look Sender else (if b then Look Receiver else (if d then Check else None_owed))) r → StepsTo c.queue.size asked began new r
-    by true b d ea eb ed m = looks_since c asked began since S.next Sender old.standing.senders.found r ea m
-    by false true d ea eb ed m = looks_since c asked began since S.next Receiver old.standing.receivers.found r eb m
-    by false false true ea eb ed m = check_since c asked began since S.next r ed m
-    by false false false ea eb ed m = next_since c asked began since old.standing.next r refl since.since m
+    by true b d ea eb ed m = looks_since c asked began old new since old.queue (account_of_seat old.queue) S.next Sender old.standing.senders.found r ea m
+    by false true d ea eb ed m = looks_since c asked began old new since old.queue (account_of_seat old.queue) S.next Receiver old.standing.receivers.found r eb m
+    by false false true ea eb ed m = check_since c asked began old new since old.queue (account_of_seat old.queue) S.next r ed m
+    by false false false ea eb ed m = next_since c asked began old new since old.standing.next r refl since.since m

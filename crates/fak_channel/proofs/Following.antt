@@ -1,6 +1,6 @@
 -- The state of a seat after each step of a call, and what a call keeps: whether it is a try.
 use Rattle.std.proofs.Common.{◌≡◌, ◌≢◌, ◌⊎◌, ℕ, Bool, true, false, refl, ap, sym, ◌∙◌, subst, inl, inr, Option, Some, None, if◌then◌else◌}
-use Rattle.fak_channel.specs.SleeperSeats.{SleeperInfo, ChecksDrained}
+use Rattle.fak_queue.specs.SleeperSeats.{SleeperInfo, ChecksDrained}
 use Rattle.fak_queue.specs.declared.role.Role.{Role}
 use Rattle.fak_queue.specs.declared.role.Role.TheVariants.{Sender, Receiver}
 use Rattle.fak_channel.specs.declared.channel.Channel.{Channel}

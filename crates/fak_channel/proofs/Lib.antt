@@ -3,4 +3,4 @@ pub mod Transitions
 pub mod Marking
 pub mod CallSteps
 pub mod Following
-pub mod Running
+pub mod Runs

@@ -17,7 +17,7 @@ use Rattle.fak_queue.specs.Sleepers.{as_role}
 use Rattle.fak_queue.specs.declared.role.Role.{Role}
 use Rattle.fak_queue.specs.declared.role.Role.TheVariants.{Sender, Receiver}
 use Rattle.fak_queue.specs.declared.state.SeatState.TheVariants as at
-use Rattle.fak_channel.specs.SleeperSeats.{SleeperInfo, account_of_seat, AddsNote, AddsNoNote, LeavesNoMark, TakesBit, ChecksDrained}
+use Rattle.fak_queue.specs.SleeperSeats.{SleeperInfo, account_of_seat, AddsNote, AddsNoNote, LeavesNoMark, TakesBit, ChecksDrained}
 use Rattle.fak_channel.specs.declared.channel.Channel.{Channel}
 use Rattle.fak_channel.specs.declared.seat.ChannelSeat.{ChannelSeat}
 use Rattle.fak_channel.specs.declared.standing.CallStanding.{CallStanding}

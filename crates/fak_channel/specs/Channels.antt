@@ -12,7 +12,7 @@ use Rattle.fak_queue.specs.Retries.{InsertsAfterFull, ClosesAfterFull}
 use Rattle.fak_queue.specs.Sleepers.{as_role}
 use Rattle.fak_queue.specs.declared.role.Role.{Role}
 use Rattle.fak_queue.specs.declared.role.Role.TheVariants.{Sender, Receiver}
-use Rattle.fak_channel.specs.SleeperSeats.{SleeperInfo, note_of}
+use Rattle.fak_queue.specs.SleeperSeats.{SleeperInfo, note_of}
 use Rattle.fak_channel.specs.declared.channel.Channel.{Channel}
 use Rattle.fak_channel.specs.declared.seat.ChannelSeat.{ChannelSeat}
 use Rattle.fak_channel.specs.declared.fault.SendFault.{SendFault}

@@ -1,9 +1,8 @@
-pub mod Found
-pub mod SleeperSeats
 pub mod Looks
 pub mod Standings
 pub mod Marks
 pub mod Moves
 pub mod Channels
 pub mod ChannelSteps
+pub mod Undealt
 pub mod Faults

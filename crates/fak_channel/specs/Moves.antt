@@ -13,8 +13,8 @@ use Rattle.fak_queue.specs.declared.state.SeatState.TheVariants as at
 use Rattle.fak_queue.specs.Drained.{IsDrained}
 use Rattle.fak_queue.specs.Queues.{ClaimsIn, ClaimsOut, Fills, Takes, WaitsToFill, WaitsToTake, RefusesFull, RefusesClosed, RefusesEmpty, ShutsAs, drawn_by, state_of}
 use Rattle.fak_queue.specs.Sleepers.{as_role}
-use Rattle.fak_channel.specs.SleeperSeats.{SleeperInfo, AddsNote, AddsNoNote, KeepsNotes, TakesBit, ChecksDrained}
-use Rattle.fak_channel.specs.Found.{HasRoom, HasNoRoom, HasItem, HasNoItem}
+use Rattle.fak_queue.specs.SleeperSeats.{SleeperInfo, AddsNote, AddsNoNote, KeepsNotes, TakesBit, ChecksDrained}
+use Rattle.fak_queue.specs.Found.{HasRoom, HasNoRoom, HasItem, HasNoItem}
 use Rattle.fak_channel.specs.declared.channel.Channel.{Channel}
 use Rattle.fak_channel.specs.declared.seat.ChannelSeat.{ChannelSeat}
 use Rattle.fak_channel.specs.declared.progress.Progress.{Progress}

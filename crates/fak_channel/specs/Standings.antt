@@ -8,7 +8,7 @@ use Rattle.fak_queue.specs.declared.role.Role.{Role}
 use Rattle.fak_queue.specs.declared.role.Role.TheVariants.{Sender, Receiver}
 use Rattle.fak_queue.specs.declared.state.SeatState.{SeatState}
 use Rattle.fak_queue.specs.declared.state.SeatState.TheVariants as at
-use Rattle.fak_channel.specs.SleeperSeats.{SleeperInfo, account_of_seat}
+use Rattle.fak_queue.specs.SleeperSeats.{SleeperInfo, account_of_seat}
 use Rattle.fak_channel.specs.declared.channel.Channel.{Channel}
 use Rattle.fak_channel.specs.declared.seat.ChannelSeat.{ChannelSeat}
 use Rattle.fak_channel.specs.declared.standing.CallStanding.{CallStanding}

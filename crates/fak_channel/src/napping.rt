@@ -5,7 +5,7 @@ ghost use Rattle.std.specs.Prelude.{◌≡◌};
 ghost use Rattle.fak_channel_core.specs.SleeperSides.{Asleep, PastLower, Registered, Awake};
 ghost use Rattle.fak_channel.specs.declared.standing.Next.TheVariants.{Registering, Sleeping, TakingBack, Testing, TestingDrained};
 ghost use Rattle.fak_channel.specs.declared.standing.Wish.TheVariants.{Receive, Send};
-ghost use Rattle.fak_channel.specs.SleeperSeats.{account_of_seat};
+ghost use Rattle.fak_queue.specs.SleeperSeats.{account_of_seat};
 ghost use Rattle.fak_channel.specs.Moves.{GivesUpSleep, MovesNext, at_next, step_of};
 ghost use Rattle.fak_channel.specs.Standings.{HasSet, IsAwake, MayClaim, StageFor, StagesAre, role_of};
 

@@ -6,7 +6,7 @@ ghost use Rattle.fak_channel.specs.Standings.{IsSeatOf, call_state};
 
 use crate::channel::Channel;
 use crate::standing::{CallStanding, ChannelState};
-use crate::stub::SleeperSeat;
+use fak_queue::SleeperSeat;
 use std::fmt;
 
 /// The right to send to a channel, to receive from it and to close it. Between the steps of a call it keeps the item that is to

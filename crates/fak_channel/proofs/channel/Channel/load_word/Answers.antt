@@ -1,6 +1,6 @@
 use Rattle.std.proofs.Common.{◌≡◌, ℕ, ◌/◌, ◌≤◌, Some, subst, sym}
 use Rattle.fak_queue.specs.declared.role.Role.{Role}
-use Rattle.fak_channel.specs.SleeperSeats.{AddsNoNote}
+use Rattle.fak_queue.specs.SleeperSeats.{AddsNoNote}
 use Rattle.fak_channel.specs.declared.seat.ChannelSeat.{ChannelSeat}
 use Rattle.fak_channel.specs.declared.standing.Looks.{Looks}
 use Rattle.fak_channel.specs.Looks.{finding, word_at}
@@ -14,4 +14,4 @@ found_set {T} ends size role l old new k m same hears at stands =
     subst (λ (x : Looks). LoadsWord ends size role x old new) same (finds k hears at.0 at.1 stands)
 
 pub returns-in-Some : goal.returns-in-Some
-returns-in-Some g c = found_set _ _ _ _ _ _ c.in-Some.other c.looks_for-looks.result c.looks_for-looks.ensures (c.look-found.ensures.some c.if-found-eq0.false) (c.in-Some.ensures tt) c.set_looks-in-Some.ensures
+returns-in-Some g c = found_set _ _ _ _ _ _ c.in-Some.other c.looks_for-looks.result c.looks_for-looks.ensures (c.look-found.ensures.some c.if-found-eq0.false) c.in-Some.ensures c.set_looks-in-Some.ensures

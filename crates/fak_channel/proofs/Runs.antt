@@ -1,7 +1,7 @@
 -- Steps of a call, one after another.
 use Rattle.std.proofs.Common.{◌≡◌, ◌≢◌, Bool, true, false, refl, ap, sym, ◌∙◌, subst, Option, Some, None, ℕ}
 use Rattle.fak_channel_core.specs.SleeperMoves.{Account}
-use Rattle.fak_channel.specs.SleeperSeats.{SleeperInfo}
+use Rattle.fak_queue.specs.SleeperSeats.{SleeperInfo}
 use Rattle.fak_channel.specs.declared.standing.CallStanding.{CallStanding}
 use Rattle.fak_channel.specs.declared.channel.Channel.{Channel}
 use Rattle.fak_channel.specs.declared.progress.Stop.{Stop}
