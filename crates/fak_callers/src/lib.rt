@@ -27,6 +27,7 @@ pub mod runs;
 pub mod schedules;
 pub mod scripts;
 pub mod semaphores;
+pub mod sleeper_seats;
 pub mod sleepers;
 #[cfg(test)]
 mod tests;
