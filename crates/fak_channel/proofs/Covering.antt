@@ -1,5 +1,5 @@
 -- How looks pay what an end owes on one side.
-use Rattle.std.proofs.Common.{◌≡◌, ◌⊎◌, ℕ, ◌+◌, ◌*◌, ◌-◌, ◌/◌, ◌<◌, ◌≤◌, Bool, true, false, refl, ap, sym, ◌∙◌, subst, inl, inr, arith, Option, Some, None, IfSome, nat_lt, if◌then◌else◌}
+use Rattle.std.proofs.Common.{◌≡◌, ◌≢◌, ◌⊎◌, ℕ, zero, suc, ◌+◌, ◌*◌, ◌-◌, ◌/◌, ◌<◌, ◌≤◌, Bool, true, false, refl, ap, sym, ◌∙◌, subst, inl, inr, arith, Option, Some, None, IfSome, nat_lt, if◌then◌else◌}
 use Rattle.std.specs.Prelude.{◌||◌, ◌==◌}
 use Rattle.std.proofs.lemmas.Grind.{common_steps}
 use Rattle.fak_model.specs.Limits.{large_seats}
@@ -13,6 +13,12 @@ true_is_not_false : {A : Type 0} → true ≡ false → A
 true_is_not_false e = absurd (let f : true ≡ false = e in cc)
 
 -- ---- numbers
+
+same_or_not : (a b : ℕ) → (a ≡ b) ⊎ (a ≢ b)
+same_or_not zero zero = inl refl
+same_or_not zero (suc b) = inr (λ e. omega (arith, e))
+same_or_not (suc a) zero = inr (λ e. omega (arith, e))
+same_or_not (suc a) (suc b) = elim (same_or_not a b) [ inl e ↦ inl (ap suc e) | inr other ↦ inr (λ e. other (omega (arith, e))) ]
 
 -- all words are still to be loaded
 all_to_pass : (from words v : ℕ) → from < 64 * words → v < words → ((from / 64 ≤ v) × (v < from / 64 + words)) ⊎ (v + words < from / 64 + words)
@@ -42,7 +48,7 @@ module _ {ends : ℕ} {l : Looks} {g : Duty} where
     from = c.from;
     left = c.left;
     found = c.found;
-    passed = λ owed v below. subst (λ (f : ℕ → Bool). (f v ≡ true) ⊎ IsToPass (words_of ends) l v) (sym passed) (c.passed owed v below);
+    passed = λ owed v below past. subst (λ (f : ℕ → Bool). f v ≡ true) (sym passed) (c.passed owed v below past);
   }
 
   pub covers_owing : (h : Duty) → h.looks ≤ 1 → Covers ends l g → Covers ends (owing ends l) h
@@ -52,7 +58,7 @@ module _ {ends : ℕ} {l : Looks} {g : Duty} where
     from = c.from;
     left = omega arith;
     found = c.found;
-    passed = λ owed v below. inr (all_to_pass l.from (words_of ends) v c.from below);
+    passed = λ owed v below past. absurd (past (all_to_pass l.from (words_of ends) v c.from below));
   }
 
   -- ---- a look
@@ -69,11 +75,11 @@ module _ {ends : ℕ} {l : Looks} {g : Duty} where
 
   -- the last word is passed
   all_passed : l.is_owed ≡ true → Covers ends l g → l.left ≤ 1 → has_passed ends now_passed ≡ true
-  all_passed owed c few = all_true (λ k. now_passed (k / 64)) ends (λ k below. by k (c.passed owed (k / 64) (omega (arith, below))) (omega (arith, below)))
+  all_passed owed c few = all_true (λ k. now_passed (k / 64)) ends (λ k below. by k (omega (arith, below)) (same_or_not (k / 64) (word_at l)))
     where
-      by : (k : ℕ) → (g.passed (k / 64) ≡ true) ⊎ IsToPass (words_of ends) l (k / 64) → k / 64 < words_of ends → now_passed (k / 64) ≡ true
-      by k (inl was) small = now_true (k / 64) was
-      by k (inr to) small = now_own (k / 64) (passed_last l.from (words_of ends) l.left (k / 64) c.from few small to)
+      by : (k : ℕ) → k / 64 < words_of ends → (k / 64 ≡ word_at l) ⊎ (k / 64 ≢ word_at l) → now_passed (k / 64) ≡ true
+      by k small (inl own) = now_own (k / 64) own
+      by k small (inr other) = now_true (k / 64) (c.passed owed (k / 64) small (λ to. other (passed_last l.from (words_of ends) l.left (k / 64) c.from few small to)))
 
   pub covers_past : l.is_owed ≡ true → Covers ends l g → Covers ends (past_word ends l) (passes_word ends (word_at l) g)
   covers_past owed c = record {
@@ -82,7 +88,7 @@ module _ {ends : ℕ} {l : Looks} {g : Duty} where
     from = (let n = next_below (words_of ends) (word_at l) (some_word c.from) in omega (arith, n));
     left = (let n = c.left in omega (arith, n));
     found = c.found;
-    passed = λ still v below. then_passed v below (c.passed owed v below);
+    passed = λ still v below past. then_passed v below past (same_or_not v (word_at l));
   }
     where
       few_looks : (b : Bool) → (if b then 0 else g.looks) ≤ 1
@@ -95,9 +101,9 @@ module _ {ends : ℕ} {l : Looks} {g : Duty} where
       some_word : {n : ℕ} → l.from < 64 * n → 0 < n
       some_word less = omega (arith, less)
 
-      then_passed : (v : ℕ) → v < words_of ends → (g.passed v ≡ true) ⊎ IsToPass (words_of ends) l v → (now_passed v ≡ true) ⊎ IsToPass (words_of ends) (past_word ends l) v
-      then_passed v below (inl was) = inl (now_true v was)
-      then_passed v below (inr to) = elim (passed_one l.from (words_of ends) l.left v c.from c.left below to) [ inl own ↦ inl (now_own v own) | inr still ↦ inr still ]
+      then_passed : (v : ℕ) → v < words_of ends → (IsToPass (words_of ends) (past_word ends l) v → ⊥) → (v ≡ word_at l) ⊎ (v ≢ word_at l) → now_passed v ≡ true
+      then_passed v below past (inl own) = now_own v own
+      then_passed v below past (inr other) = now_true v (c.passed owed v below (λ to. elim (passed_one l.from (words_of ends) l.left v c.from c.left below to) [ inl own ↦ other own | inr still ↦ past still ]))
 
   pub covers_round : l.is_owed ≡ true → Covers ends l g → Covers ends (past_bits ends l) g
   covers_round owed c = record {
@@ -106,7 +112,7 @@ module _ {ends : ℕ} {l : Looks} {g : Duty} where
     from = new_from;
     left = omega arith;
     found = c.found;
-    passed = λ owed v below. inr (all_to_pass (64 * next_in (words_of ends) (word_at l)) (words_of ends) v new_from below);
+    passed = λ owed v below past. absurd (past (all_to_pass (64 * next_in (words_of ends) (word_at l)) (words_of ends) v new_from below));
   }
     where
       new_from : 64 * next_in (words_of ends) (word_at l) < 64 * words_of ends

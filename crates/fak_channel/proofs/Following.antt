@@ -190,7 +190,7 @@ module _ {T : Type 0} (c : Channel T) {old new : ChannelSeat T} where
   next_follows (Ending o) NotYet is in_call m = absurd m
   next_follows (Ending o) Sleeps is in_call m = absurd m
   next_follows (Ending o) (Wakes k) is in_call m = absurd m
-  next_follows (Ending o) (Ends p) is in_call m = record { tries = ap (λ (t : CallStanding T). t.tries) m.1.stands; after = ap (λ (t : CallStanding T). t.next) m.1.stands }
+  next_follows (Ending o) (Ends p) is in_call m = record { tries = ap (λ (t : CallStanding T). t.tries) m.1.stands; after = ap (λ (t : CallStanding T). call_state t.next) m.1.stands }
 
   pub moved_follows : (r : ChannelStep T) → IsInCall old → Moves c old new r → Follows r
   moved_follows r in_call m = by s.senders.is_owed s.receivers.is_owed s.checks refl refl refl m

@@ -4,3 +4,5 @@ pub mod Marking
 pub mod CallSteps
 pub mod Following
 pub mod Runs
+pub mod OneProof
+pub mod Borrowing

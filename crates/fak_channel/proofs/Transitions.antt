@@ -9,7 +9,7 @@ use Rattle.fak_model.specs.declared.queue.Kind.TheVariants as made
 use Rattle.fak_model.specs.declared.queue.Mark.{Mark}
 use Rattle.fak_model.specs.Calls.{ObjectId, SeatInfo}
 use Rattle.fak_model.specs.declared.note.Note.{Note}
-use Rattle.fak_channel_core.specs.SleeperSides.{SleepStage, Awake, Registered, PastLower, Asleep, Woken, tried_stage, owes_look, tried}
+use Rattle.fak_channel_core.specs.SleeperSides.{SleepStage, Awake, Registered, PastLower, Asleep, Woken, relies_on_bit, tried_stage, owes_look, tried}
 use Rattle.fak_channel_core.specs.SleeperMoves.{Account, after_note}
 use Rattle.fak_queue.specs.Accounts.{after_kinds}
 use Rattle.fak_queue.specs.Queues.{Makes, RefusesFull, RefusesClosed, RefusesEmpty, ShutsAs, drawn_by, state_of}
@@ -217,10 +217,10 @@ module _ {T : Type 0} (c : Channel T) {old new : ChannelSeat T} (S : IsStepSeatO
 
     module _ (x : T) (up : IsUp (Send x) g) where
       sender_tried : tried_stage g.sender.stage ≡ Awake
-      sender_tried = elim up [ inl a ↦ ap tried_stage a.sender | inr a ↦ ap tried_stage a.sender ]
+      sender_tried = up.sender
 
       receiver_up : g.receiver.stage ≡ Awake
-      receiver_up = elim up [ inl a ↦ a.receiver | inr a ↦ a.receiver ]
+      receiver_up = up.receiver
 
       claimed_room : ChecksIf s g → ClaimsRoom c old new x → IsStepSeatOf c new
       claimed_room free (room_granted k calls state claims stands) =
@@ -247,10 +247,10 @@ module _ {T : Type 0} (c : Channel T) {old new : ChannelSeat T} (S : IsStepSeatO
 
     module _ (up : IsUp Receive g) where
       receiver_tried : tried_stage g.receiver.stage ≡ Awake
-      receiver_tried = elim up [ inl a ↦ ap tried_stage a.receiver | inr a ↦ ap tried_stage a.receiver ]
+      receiver_tried = up.receiver
 
       sender_up : g.sender.stage ≡ Awake
-      sender_up = elim up [ inl a ↦ a.sender | inr a ↦ a.sender ]
+      sender_up = up.sender
 
       item_refused : {size : ℕ} (kinds : List (Kind T)) → WasRefused size old.queue new.queue → Makes size kinds old.queue.seat new.queue.seat → new.standing ≡ with_next Checking (item_made n s) → (after_kinds n (reverse kinds) g).receiver.looks ≤ 1
           → (after_kinds n (reverse kinds) g).sender.looks ≡ g.sender.looks → (after_kinds n (reverse kinds) g).sender.passed ≡ g.sender.passed → IsAwake (after_kinds n (reverse kinds) g) → IsStepSeatOf c new
@@ -306,21 +306,21 @@ module _ {T : Type 0} (c : Channel T) {old new : ChannelSeat T} (S : IsStepSeatO
         put_signed (AsSender FallsAsleep) signs (with_next (Sleeping (Send x)) s) stands (covers_same (after_note n (AsSender FallsAsleep) g).sender refl refl S.pays.senders) S.pays.receivers
         (record { stands = record { queue = may_step signs may; none = none_still (Sleeping (Send x)) none; checks = free; stages = record { sender = refl; receiver = stage.receiver } }; tries = kind })
     tested_room x kind may free stage (room_came hears why stands) =
-        put_heard hears (with_next (TakingBack (Send x)) s) stands S.pays.senders S.pays.receivers (record { stands = record { queue = may_step hears may; none = none_still (TakingBack (Send x)) none; checks = free; stages = inl stage }; tries = kind })
+        put_heard hears (with_next (TakingBack (Send x)) s) stands S.pays.senders S.pays.receivers (record { stands = record { queue = may_step hears may; none = none_still (TakingBack (Send x)) none; checks = free; stages = record { sender = ap relies_on_bit stage.sender; receiver = stage.receiver } }; tries = kind })
 
     tested_item : s.tries ≡ false → MayClaim old.queue → ChecksIf s g → StageFor Receive Registered g → TestsItem c old new → IsStepSeatOf c new
     tested_item kind may free stage (no_item_yet lower signs empty stands) =
         put_signed (AsReceiver FindsNoItem) signs (with_next TestingDrained s) stands S.pays.senders (covers_same (after_note n (AsReceiver FindsNoItem) g).receiver refl refl S.pays.receivers)
         (record { stands = record { queue = may_step signs may; none = none_still TestingDrained none; checks = free; stages = record { sender = stage.sender; receiver = refl } }; tries = kind })
     tested_item kind may free stage (item_came hears why stands) =
-        put_heard hears (with_next (TakingBack Receive) s) stands S.pays.senders S.pays.receivers (record { stands = record { queue = may_step hears may; none = none_still (TakingBack Receive) none; checks = free; stages = inl stage }; tries = kind })
+        put_heard hears (with_next (TakingBack Receive) s) stands S.pays.senders S.pays.receivers (record { stands = record { queue = may_step hears may; none = none_still (TakingBack Receive) none; checks = free; stages = record { sender = stage.sender; receiver = ap relies_on_bit stage.receiver } }; tries = kind })
 
     tested_drained : s.tries ≡ false → MayClaim old.queue → ChecksIf s g → StagesAre Awake PastLower g → TestsDrained c old new → IsStepSeatOf c new
     tested_drained kind may free stage (receiver_sleeps signs undrained stands) =
         put_signed (AsReceiver FallsAsleep) signs (with_next (Sleeping Receive) s) stands S.pays.senders (covers_same (after_note n (AsReceiver FallsAsleep) g).receiver refl refl S.pays.receivers)
         (record { stands = record { queue = may_step signs may; none = none_still (Sleeping Receive) none; checks = free; stages = record { sender = stage.sender; receiver = refl } }; tries = kind })
     tested_drained kind may free stage (drained_meanwhile hears why stands) =
-        put_heard hears (with_next (TakingBack Receive) s) stands S.pays.senders S.pays.receivers (record { stands = record { queue = may_step hears may; none = none_still (TakingBack Receive) none; checks = free; stages = inr stage }; tries = kind })
+        put_heard hears (with_next (TakingBack Receive) s) stands S.pays.senders S.pays.receivers (record { stands = record { queue = may_step hears may; none = none_still (TakingBack Receive) none; checks = free; stages = record { sender = stage.sender; receiver = ap relies_on_bit stage.receiver } }; tries = kind })
 
     -- the other role is awake
     OtherAwake : Wish T → Type 0
@@ -334,20 +334,20 @@ module _ {T : Type 0} (c : Channel T) {old new : ChannelSeat T} (S : IsStepSeatO
     claims_again : (w : Wish T) {size : ℕ} → MayClaim old.queue → ChecksIf s g → OtherAwake w → (was_set : Bool) → TakesBit size (role_of w) was_set old.queue new.queue → new.standing ≡ with_next (Claiming w) s → IsStepSeatOf c new
     claims_again (Send x) may free other true signs stands =
         put_signed (AsSender TakesBack) signs (with_next (Claiming (Send x)) s) stands (covers_same (after_note n (AsSender TakesBack) g).sender refl refl S.pays.senders) S.pays.receivers
-        (record { queue = may_step signs may; none = none_still (Claiming (Send x)) none; checks = free; stages = inl (record { sender = refl; receiver = other }) })
+        (record { queue = may_step signs may; none = none_still (Claiming (Send x)) none; checks = free; stages = record { sender = refl; receiver = other } })
     claims_again (Send x) may free other false signs stands =
         put_signed (AsSender IsWoken) signs (with_next (Claiming (Send x)) s) stands (covers_same (after_note n (AsSender IsWoken) g).sender refl refl S.pays.senders) S.pays.receivers
-        (record { queue = may_step signs may; none = none_still (Claiming (Send x)) none; checks = free; stages = inr (record { sender = refl; receiver = other }) })
+        (record { queue = may_step signs may; none = none_still (Claiming (Send x)) none; checks = free; stages = record { sender = refl; receiver = other } })
     claims_again Receive may free other true signs stands =
         put_signed (AsReceiver TakesBack) signs (with_next (Claiming Receive) s) stands S.pays.senders (covers_same (after_note n (AsReceiver TakesBack) g).receiver refl refl S.pays.receivers)
-        (record { queue = may_step signs may; none = none_still (Claiming Receive) none; checks = free; stages = inl (record { sender = other; receiver = refl }) })
+        (record { queue = may_step signs may; none = none_still (Claiming Receive) none; checks = free; stages = record { sender = other; receiver = refl } })
     claims_again Receive may free other false signs stands =
         put_signed (AsReceiver IsWoken) signs (with_next (Claiming Receive) s) stands S.pays.senders (covers_same (after_note n (AsReceiver IsWoken) g).receiver refl refl S.pays.receivers)
-        (record { queue = may_step signs may; none = none_still (Claiming Receive) none; checks = free; stages = inr (record { sender = other; receiver = refl }) })
+        (record { queue = may_step signs may; none = none_still (Claiming Receive) none; checks = free; stages = record { sender = other; receiver = refl } })
 
     own_cleared : (w : Wish T) → MayClaim old.queue → ChecksIf s g → HasSet w g → ClearsOwn c old new w → IsStepSeatOf c new
-    own_cleared w may free (inl stage) m = claims_again w may free (other_awake w stage) m.was_set m.takes m.stands
-    own_cleared w may free (inr stage) m = claims_again w may free (other_awake w stage) m.was_set m.takes m.stands
+    own_cleared (Send x) may free set m = claims_again (Send x) may free set.receiver m.was_set m.takes m.stands
+    own_cleared Receive may free set m = claims_again Receive may free set.sender m.was_set m.takes m.stands
 
     registered : (w : Wish T) → s.tries ≡ false → MayClaim old.queue → ChecksIf s g → IsAwake g → SetsBit c old new w → IsStepSeatOf c new
     registered (Send x) kind may free up m =
@@ -442,8 +442,8 @@ module _ {T : Type 0} (c : Channel T) {old new : ChannelSeat T} (S : IsStepSeatO
     next_moved (Refused w) GoesOn is h m = only_stands (Claiming w) m (record { queue = h.stands.queue; none = none_still (Claiming w) none; checks = h.stands.checks; stages = up_of w h.stands.stages })
       where
         up_of : (w : Wish T) → IsAwake g → IsUp w g
-        up_of (Send x) up = inl up
-        up_of Receive up = inl up
+        up_of (Send x) up = record { sender = ap tried_stage up.sender; receiver = up.receiver }
+        up_of Receive up = record { sender = up.sender; receiver = ap tried_stage up.receiver }
     next_moved (Refused w) NotYet is h m = absurd m
     next_moved (Refused w) Sleeps is h m = absurd m
     next_moved (Refused w) (Wakes k) is h m = absurd m

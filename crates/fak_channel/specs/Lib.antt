@@ -6,3 +6,4 @@ pub mod Channels
 pub mod ChannelSteps
 pub mod Undealt
 pub mod Faults
+pub mod Lending

@@ -55,7 +55,7 @@ pub record Covers (ends : ℕ) (l : Looks) (g : Duty) : Type 0 where
   pub from : l.from < 64 * words_of ends
   pub left : l.left ≤ words_of ends
   pub found : IfSome l.found (λ k. k < large_seats)
-  pub passed : l.is_owed ≡ true → (v : ℕ) → v < words_of ends → (g.passed v ≡ true) ⊎ IsToPass (words_of ends) l v
+  pub passed : l.is_owed ≡ true → (v : ℕ) → v < words_of ends → (IsToPass (words_of ends) l v → ⊥) → g.passed v ≡ true
 
 -- an end of the word that the look has loaded, from the one on from which it goes; or there is none, and it began within the
 -- word

@@ -1,7 +1,7 @@
 -- What the type of a channel's seat keeps: how its standing agrees with its account as an end of the channel.
 use Rattle.std.specs.Prelude.{◌≡◌, ◌≢◌, ◌⊎◌, ℕ, ◌*◌, ◌<◌, ◌≤◌, Bool, true, false, IfSome, pos}
 use Rattle.fak_model.specs.Limits.{large_seats}
-use Rattle.fak_channel_core.specs.SleeperSides.{SleepStage, Awake, Registered, PastLower, Asleep, Woken, relies_on_bit}
+use Rattle.fak_channel_core.specs.SleeperSides.{SleepStage, Awake, Registered, PastLower, Asleep, relies_on_bit, tried_stage}
 use Rattle.fak_channel_core.specs.SleeperMoves.{Account}
 use Rattle.fak_queue.specs.Queues.{drawn_by, state_of}
 use Rattle.fak_queue.specs.declared.role.Role.{Role}
@@ -51,7 +51,7 @@ IsAsleep s = call_state s.standing.next ≡ state.Sleeping
 
 -- no call is open
 abbrev pub IsBetweenCalls : {T : Type 0} → ChannelSeat T → Type 0
-IsBetweenCalls s = s.standing.next ≡ Idle
+IsBetweenCalls s = call_state s.standing.next ≡ state.Idle
 
 -- the role of an end with this wish, and the other one
 abbrev pub role_of : {T : Type 0} → Wish T → Role
@@ -138,13 +138,31 @@ IsInserting q = state_of q.seat ≡ at.Inserting (ticket_in (state_of q.seat))
 abbrev pub IsDeleting : {T : Type 0} → SleeperInfo T → Type 0
 IsDeleting q = state_of q.seat ≡ at.Deleting (ticket_in (state_of q.seat))
 
--- an end that claims has not slept, or another has woken it
+-- an end that claims has not slept, or another has woken it; in the other role it is awake
+pub record SenderIsUp (g : Account) : Type 0 where
+  pub sender : tried_stage g.sender.stage ≡ Awake
+  pub receiver : g.receiver.stage ≡ Awake
+
+pub record ReceiverIsUp (g : Account) : Type 0 where
+  pub sender : g.sender.stage ≡ Awake
+  pub receiver : tried_stage g.receiver.stage ≡ Awake
+
 abbrev pub IsUp : {T : Type 0} → Wish T → Account → Type 0
-IsUp w g = StageFor w Awake g ⊎ StageFor w Woken g
+IsUp (Send x) g = SenderIsUp g
+IsUp Receive g = ReceiverIsUp g
 
 -- its bit is set, unless another end has cleared it
+pub record SenderHasSet (g : Account) : Type 0 where
+  pub sender : relies_on_bit g.sender.stage ≡ true
+  pub receiver : g.receiver.stage ≡ Awake
+
+pub record ReceiverHasSet (g : Account) : Type 0 where
+  pub sender : g.sender.stage ≡ Awake
+  pub receiver : relies_on_bit g.receiver.stage ≡ true
+
 abbrev pub HasSet : {T : Type 0} → Wish T → Account → Type 0
-HasSet w g = StageFor w Registered g ⊎ StageFor w PastLower g
+HasSet (Send x) g = SenderHasSet g
+HasSet Receive g = ReceiverHasSet g
 
 -- what the queue's seat and the account satisfy in each state
 abbrev pub StandsSo : {T : Type 0} → Next T → CallStanding T → SleeperInfo T → Account → Type 0

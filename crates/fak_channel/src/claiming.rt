@@ -127,8 +127,8 @@ impl<T: Drop> Channel<T> {
             }
             Some((_, item)) => {
                 seat.standing.owe_for_room(self.ends);
-                seat.standing
-                    .set_next(Next::Ending(Outcome::Received(item)));
+                let next = Next::Ending(Outcome::Received(item));
+                seat.standing.set_next(next);
                 Progress::GoesOn
             }
         }

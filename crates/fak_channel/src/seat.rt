@@ -17,6 +17,9 @@ pub struct ChannelSeat<T> {
     pub(crate) standing: CallStanding<T>,
 }
 
+/// A seat whose calls go by steps: any seat of a channel is one.
+pub type ChannelStepSeat<T> = ChannelSeat<T>;
+
 impl<T: Drop> Channel<T> {
     /// A seat whose calls go by steps from now on: the same seat. It must belong to this channel and be between two calls.
     pub fn step_seat(&self, seat: ChannelSeat<T>) -> ChannelSeat<T>

@@ -1,0 +1,40 @@
+-- From what an end's call did to what callers of a lender know of it.
+use Rattle.std.specs.Prelude.{◌≡◌, Bool, Result, Ok, Err, MatchResult}
+use Rattle.fak_channel.specs.declared.channel.Channel.{Channel}
+use Rattle.fak_channel.specs.declared.fault.ReceiveFault.{ReceiveFault}
+use Rattle.fak_channel.specs.declared.fault.SendFault.{SendFault}
+use Rattle.fak_channel.specs.declared.fault.ChannelWorn.{ChannelWorn}
+use Rattle.fak_channel.specs.declared.seat.ChannelSeat.{ChannelSeat}
+use Rattle.fak_channel.specs.Channels.{ClosesAs, Receives, RefusesReceive, RefusesSend, RefusesTryReceive, RefusesTrySend, Sends}
+use Rattle.fak_channel.specs.Lending.{Call, SomeEndCloses, SomeEndReceives, SomeEndRefusesReceive, SomeEndRefusesSend, SomeEndRefusesTryReceive, SomeEndRefusesTrySend, SomeEndSends}
+
+-- weaker facts about both outcomes
+outcomes : {A E : Type 0} (r : Result A E) {P P' : A → Type 0} {Q Q' : E → Type 0} → ((a : A) → P a → P' a) → ((e : E) → Q e → Q' e) → MatchResult r P Q → MatchResult r P' Q'
+outcomes (Ok a) good bad h = good a h
+outcomes (Err e) good bad h = bad e h
+
+-- what a borrowed end did, some end did
+module _ {T : Type 0} (channel : Channel T) (old new : ChannelSeat T) where
+  abbrev by_end : Call T
+  by_end = record { channel = channel; old = old; new = new }
+
+  pub sent : (x : T) (r : Result (Unit {0}) (SendFault T)) → MatchResult r (λ _. Sends channel.queue.size x old new) (RefusesSend channel.queue.size x old new) → MatchResult r (λ _. SomeEndSends x) (SomeEndRefusesSend x)
+  sent x r = outcomes r (λ _ does. (by_end, does)) (λ _ does. (by_end, does))
+
+  pub sent_one : (x : T) → Sends channel.queue.size x old new → SomeEndSends x
+  sent_one x does = (by_end, does)
+
+  pub refused_try_send : (x : T) (fault : SendFault T) → RefusesTrySend channel.queue.size x old new fault → SomeEndRefusesTrySend x fault
+  refused_try_send x fault does = (by_end, does)
+
+  pub received : (r : Result T ReceiveFault) → MatchResult r (λ x. Receives channel.queue.size x old new) (RefusesReceive channel.queue.size old new) → MatchResult r SomeEndReceives (SomeEndRefusesReceive T)
+  received r = outcomes r (λ _ does. (by_end, does)) (λ _ does. (by_end, does))
+
+  pub received_one : (x : T) → Receives channel.queue.size x old new → SomeEndReceives x
+  received_one x does = (by_end, does)
+
+  pub refused_try_receive : (fault : ReceiveFault) → RefusesTryReceive channel.queue.size old new fault → SomeEndRefusesTryReceive T fault
+  refused_try_receive fault does = (by_end, does)
+
+  pub closed : (was_open : Bool) → ClosesAs channel.queue.size was_open old new → SomeEndCloses T was_open
+  closed was_open does = (by_end, does)

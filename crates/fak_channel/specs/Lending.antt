@@ -1,0 +1,48 @@
+-- What calls by a borrowed end do. It is not known which end it is and what it has seen: some end performed the call.
+use Rattle.std.specs.Prelude.{◌≡◌, Bool}
+use Rattle.fak_channel.specs.declared.channel.Channel.{Channel}
+use Rattle.fak_channel.specs.declared.seat.ChannelSeat.{ChannelSeat}
+use Rattle.fak_channel.specs.declared.fault.SendFault.{SendFault}
+use Rattle.fak_channel.specs.declared.fault.ReceiveFault.{ReceiveFault}
+use Rattle.fak_channel.specs.declared.lender_fault.LenderSendFault.{LenderSendFault}
+use Rattle.fak_channel.specs.declared.lender_fault.LenderSendFault.TheVariants as sending
+use Rattle.fak_channel.specs.declared.lender_fault.LenderReceiveFault.{LenderReceiveFault}
+use Rattle.fak_channel.specs.declared.lender_fault.LenderReceiveFault.TheVariants as receiving
+use Rattle.fak_channel.specs.Channels.{Sends, RefusesSend, RefusesTrySend, Receives, RefusesReceive, RefusesTryReceive, ClosesAs}
+
+-- a seat before and after a call of an end of some channel
+pub record Call (T : Type 0) : Type 0 where
+  pub channel : Channel T
+  pub old : ChannelSeat T
+  pub new : ChannelSeat T
+
+abbrev pub SomeEndSends : {T : Type 0} → T → Type 0
+SomeEndSends {T} x = (c : Call T) × Sends c.channel.queue.size x c.old c.new
+
+abbrev pub SomeEndRefusesSend : {T : Type 0} → T → SendFault T → Type 0
+SomeEndRefusesSend {T} x fault = (c : Call T) × RefusesSend c.channel.queue.size x c.old c.new fault
+
+abbrev pub SomeEndRefusesTrySend : {T : Type 0} → T → SendFault T → Type 0
+SomeEndRefusesTrySend {T} x fault = (c : Call T) × RefusesTrySend c.channel.queue.size x c.old c.new fault
+
+-- all ends were lent, and the item comes back; or some end refused it
+abbrev pub BusyOrRefusesSend : {T : Type 0} → T → LenderSendFault T → Type 0
+BusyOrRefusesSend x (sending.Busy y) = y ≡ x
+BusyOrRefusesSend x (sending.Refused fault) = SomeEndRefusesTrySend x fault
+
+abbrev pub SomeEndReceives : {T : Type 0} → T → Type 0
+SomeEndReceives {T} x = (c : Call T) × Receives c.channel.queue.size x c.old c.new
+
+abbrev pub SomeEndRefusesReceive : (T : Type 0) → ReceiveFault → Type 0
+SomeEndRefusesReceive T fault = (c : Call T) × RefusesReceive c.channel.queue.size c.old c.new fault
+
+abbrev pub SomeEndRefusesTryReceive : (T : Type 0) → ReceiveFault → Type 0
+SomeEndRefusesTryReceive T fault = (c : Call T) × RefusesTryReceive c.channel.queue.size c.old c.new fault
+
+-- all ends were lent; or some end received nothing
+abbrev pub BusyOrRefusesReceive : (T : Type 0) → LenderReceiveFault → Type 0
+BusyOrRefusesReceive T receiving.Busy = Unit {0}
+BusyOrRefusesReceive T (receiving.Refused fault) = SomeEndRefusesTryReceive T fault
+
+abbrev pub SomeEndCloses : (T : Type 0) → Bool → Type 0
+SomeEndCloses T was_open = (c : Call T) × ClosesAs c.channel.queue.size was_open c.old c.new
