@@ -17,10 +17,10 @@ use Rattle.fak_channel.specs.Standings.{IsInCall, IsAsleep, IsBetweenCalls, call
 use Rattle.fak_channel.specs.Moves.{Debt, Look, Check, None_owed, looks_for, with_looks, with_next, refused_next, checked, LoadsWord, passes, goes_round, finds, ClearsBit, LooksOnce, ClaimsRoom, room_granted, found_full, found_closed, ClaimsItem, item_granted, found_empty, ChecksEmpty, found_drained, found_none, TestsRoom, sender_sleeps, room_came, TestsItem, no_item_yet, item_came, TestsDrained, receiver_sleeps, drained_meanwhile, MovesNext, ChecksOnce, MovesBy, Moves}
 use Rattle.fak_channel.specs.ChannelSteps.{StandsAfter}
 
-open_call : {A : Type 0} → state.Open ≡ state.Idle → A
+pub open_call : {A : Type 0} → state.Open ≡ state.Idle → A
 open_call e = absurd (let f : state.Open ≡ state.Idle = e in cc)
 
-asleep_call : {A : Type 0} → state.Sleeping ≡ state.Idle → A
+pub asleep_call : {A : Type 0} → state.Sleeping ≡ state.Idle → A
 asleep_call e = absurd (let f : state.Sleeping ≡ state.Idle = e in cc)
 
 -- a call that sleeps is open

@@ -6,3 +6,7 @@ pub mod Following
 pub mod Runs
 pub mod OneProof
 pub mod Borrowing
+pub mod Waiting
+pub mod Observed
+pub mod GivingUp
+pub mod Begun

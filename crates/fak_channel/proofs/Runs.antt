@@ -62,6 +62,9 @@ module _ {T : Type 0} (c : Channel T) where
           asleep = f.after;
         }
 
+    pub ended_stands : (o : Outcome T) → Moves c mid new (Ends o) → IsStepSeatOf c new
+    ended_stands o m = moved_stands c k.stands (Ends o) m
+
     pub ended_idle : (o : Outcome T) → Moves c mid new (Ends o) → IsBetweenCalls new
     ended_idle o m = (moved_follows c (Ends o) k.in_call m).after
 

@@ -31,12 +31,12 @@ use Rattle.fak_channel.specs.declared.standing.Wish.{Wish}
 use Rattle.fak_channel.specs.declared.standing.Wish.TheVariants.{Send, Receive}
 use Rattle.fak_channel.specs.Looks.{words_of, word_at, owing, past_word, past_bits, finding, retrying, done_at, Covers}
 use Rattle.fak_channel.specs.Standings.{IsStepSeatOf, StandsSo, StandsClear, StandsOwing, StandsChecking, OwesNone, Pays, ChecksIf, MayClaim, HasTicket, IsIdle, IsInserting, IsDeleting, IsUp, HasSet, IsOfKind, IsAwake, StageFor, StagesAre, role_of, ticket_in, call_state, IsInCall, IsAsleep}
-use Rattle.fak_channel.specs.Moves.{Debt, Look, Check, None_owed, first_debt, looks_for, with_looks, with_next, room_made, item_made, checked, refused_next, Calls, WasRefused, LoadsWord, passes, goes_round, finds, ClearsBit, GoesOnBy, LooksOnce, ClaimsRoom, room_granted, found_full, found_closed, ClaimsItem, item_granted, found_empty, FillsCell, WaitsForRoom, TakesItem, WaitsForItem, ChecksEmpty, found_drained, found_none, TestsRoom, sender_sleeps, room_came, TestsItem, no_item_yet, item_came, TestsDrained, receiver_sleeps, drained_meanwhile, ClearsOwn, FindsWake, FindsBitSet, OnlyStands, ShutsQueue, SetsBit, MovesNext, PaysCheck, ChecksOnce, MovesBy, Moves}
+use Rattle.fak_channel.specs.Moves.{Debt, Look, Check, None_owed, first_debt, looks_for, with_looks, with_next, room_made, item_made, checked, refused_next, Calls, WasRefused, LoadsWord, passes, goes_round, finds, ClearsBit, GoesOnBy, LooksOnce, ClaimsRoom, room_granted, found_full, found_closed, ClaimsItem, item_granted, found_empty, FillsCell, WaitsForRoom, TakesItem, WaitsForItem, ChecksEmpty, found_drained, found_none, TestsRoom, sender_sleeps, room_came, TestsItem, no_item_yet, item_came, TestsDrained, receiver_sleeps, drained_meanwhile, ClearsOwn, FindsWake, TakesOwn, FindsBitSet, OnlyStands, ShutsQueue, SetsBit, MovesNext, PaysCheck, ChecksOnce, MovesBy, Moves}
 use Rattle.fak_channel.proofs.Covering.{covers_same, covers_owing, covers_past, covers_round, covers_finding, covers_retrying, covers_done}
 
 -- ---- plain facts
 
-less_same : {a b : ℕ} (d e : ℕ) → a < b → d ≡ a → e ≡ b → d < e
+pub less_same : {a b : ℕ} (d e : ℕ) → a < b → d ≡ a → e ≡ b → d < e
 less_same d e less one two = omega (arith, less, one, two)
 
 not_both : {A : Type 0} {b : Bool} → b ≡ true → b ≡ false → A
@@ -475,3 +475,32 @@ module _ {T : Type 0} (c : Channel T) {old new : ChannelSeat T} (S : IsStepSeatO
       by false true d ea eb ed m = looks_once Receiver s.receivers.found r eb m
       by false false true ea eb ed m = checked_once r eb ed m
       by false false false ea eb ed m = next_moved (record { senders = ea; receivers = eb; checks = ed }) s.next r refl S.next m
+
+  -- ---- calls that are given up
+
+  -- a call that sleeps takes its bit back
+  pub took_stands : (w : Wish T) → s.next ≡ Sleeping w → TakesOwn c old new w → IsStepSeatOf c new
+  took_stands w is m = by w (subst (λ (x : Next T). StandsSo x s old.queue g) is S.next) m
+    where
+      by : (w : Wish T) → StandsSo (Sleeping w) s old.queue g → TakesOwn c old new w → IsStepSeatOf c new
+      by (Send x) so m =
+          put_signed (AsSender TakesBack) m.signs (with_next Idle s) m.stands (covers_same (after_note n (AsSender TakesBack) g).sender refl refl S.pays.senders) S.pays.receivers
+          (record { queue = m.signs.state ∙ so.stands.queue.idle; none = none_still Idle so.stands.none; checks = so.stands.checks; stages = record { sender = refl; receiver = so.stands.stages.receiver } })
+      by Receive so m =
+          put_signed (AsReceiver TakesBack) m.signs (with_next Idle s) m.stands S.pays.senders (covers_same (after_note n (AsReceiver TakesBack) g).receiver refl refl S.pays.receivers)
+          (record { queue = m.signs.state ∙ so.stands.queue.idle; none = none_still Idle so.stands.none; checks = so.stands.checks; stages = record { sender = so.stands.stages.sender; receiver = refl } })
+
+  -- a try that was refused
+  pub refused_try_stands : (w : Wish T) → s.next ≡ Refused w → OnlyStands c old new (with_next Idle s) → IsStepSeatOf c new
+  refused_try_stands w is m =
+      let so : StandsSo (Refused w) s old.queue g = subst (λ (x : Next T). StandsSo x s old.queue g) is S.next in
+      only_stands so.stands.none Idle m (record { queue = so.stands.queue.idle; none = none_still Idle so.stands.none; checks = so.stands.checks; stages = so.stands.stages })
+
+  -- with nothing owed, the step is the one that comes next
+  pub next_moves : (r : ChannelStep T) → OwesNone s → MovesNext c old new s.next r → Moves c old new r
+  next_moves r none m = subst (λ (d : Debt). MovesBy c old new d r) (sym no_debt) m
+    where
+      no_debt : first_debt s ≡ None_owed
+      no_debt =
+          ap (λ (a : Bool). if a then Look Sender else (if s.receivers.is_owed then Look Receiver else (if s.checks then Check else None_owed))) none.senders
+          ∙ (ap (λ (b : Bool). if b then Look Receiver else (if s.checks then Check else None_owed)) none.receivers ∙ ap (λ (d : Bool). if d then Check else None_owed) none.checks)

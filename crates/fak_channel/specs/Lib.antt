@@ -7,3 +7,4 @@ pub mod ChannelSteps
 pub mod Undealt
 pub mod Faults
 pub mod Lending
+pub mod EndsAtRest
