@@ -1,5 +1,5 @@
 -- From what an end's call did to what callers of a lender know of it.
-use Rattle.std.specs.Prelude.{◌≡◌, Bool, Result, Ok, Err, MatchResult}
+use Rattle.std.specs.Prelude.{◌≡◌, Bool, Result, Ok, Err, IfOk, MatchResult}
 use Rattle.fak_channel.specs.declared.channel.Channel.{Channel}
 use Rattle.fak_channel.specs.declared.fault.ReceiveFault.{ReceiveFault}
 use Rattle.fak_channel.specs.declared.fault.SendFault.{SendFault}
@@ -36,5 +36,6 @@ module _ {T : Type 0} (channel : Channel T) (old new : ChannelSeat T) where
   pub refused_try_receive : (fault : ReceiveFault) → RefusesTryReceive channel.queue.size old new fault → SomeEndRefusesTryReceive T fault
   refused_try_receive fault does = (by_end, does)
 
-  pub closed : (was_open : Bool) → ClosesAs channel.queue.size was_open old new → SomeEndCloses T was_open
-  closed was_open does = (by_end, does)
+  pub closed_by : (r : Result Bool ChannelWorn) → IfOk r (λ was_open. ClosesAs channel.queue.size was_open old new) → IfOk r (SomeEndCloses T)
+  closed_by (Ok was_open) does = (by_end, does)
+  closed_by (Err e) does = tt

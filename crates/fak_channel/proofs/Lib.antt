@@ -10,3 +10,4 @@ pub mod Waiting
 pub mod Observed
 pub mod GivingUp
 pub mod Begun
+pub mod Deals

@@ -7,7 +7,6 @@ ghost use Rattle.fak_channel.specs.Channels.{ClosesAs, IsLength, OnlyLooks, Rece
 ghost use Rattle.fak_channel.specs.Channels.{RefusesReceiveUntil, RefusesSend, RefusesSendUntil, RefusesTryReceive};
 ghost use Rattle.fak_channel.specs.Channels.{RefusesTrySend, Sends};
 ghost use Rattle.fak_channel.specs.Standings.{IsSeatOf};
-ghost use Rattle.fak_channel.proofs.OneProof.{seat_of_prop};
 
 use crate::channel::Channel;
 use crate::fault::{ChannelWorn, ReceiveFault, SendFault};
@@ -25,7 +24,7 @@ pub struct End<'c, T> {
     pub channel: &'c Channel<T>,
     /// The seat, which belongs to this channel, and of which no call is open.
     pub seat: ChannelSeat<T>,
-    pub ghost of_channel: { IsSeatOf channel.now seat } by { seat_of_prop channel.now seat },
+    pub ghost of_channel: { ∥ IsSeatOf channel.now seat ∥₁ },
 }
 
 impl<'c, T: Drop> End<'c, T> {

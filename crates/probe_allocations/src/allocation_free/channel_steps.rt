@@ -1,7 +1,7 @@
 //! Calls of a channel's ends by steps.
 
-ghost use Rattle.fak_channel.specs.Channels.{IsSeatOf};
-ghost use Rattle.fak_channel.specs.ChannelSteps.{IsStepSeatOf};
+ghost use Rattle.fak_channel.specs.Standings.{IsSeatOf};
+ghost use Rattle.fak_channel.specs.Standings.{IsStepSeatOf};
 ghost use Rattle.fak_channel.proofs.OneProof.{stands_prop};
 
 use super::sentinels::{begin, end};
