@@ -29,7 +29,7 @@ use Rattle.fak_channel.specs.declared.standing.Outcome.TheVariants as outcome
 use Rattle.fak_channel.specs.declared.standing.Wish.{Wish}
 use Rattle.fak_channel.specs.declared.standing.Wish.TheVariants.{Send, Receive}
 use Rattle.fak_channel.specs.Standings.{IsStepSeatOf, StandsSo, OwesNone, MayClaim, HasTicket, role_of, ticket_in}
-use Rattle.fak_channel.specs.Moves.{Debt, Look, Check, None_owed, looks_for, with_looks, with_next, refused_next, Calls, WasRefused, LoadsWord, passes, goes_round, finds, ClearsBit, LooksOnce, ClaimsRoom, room_granted, found_full, found_closed, ClaimsItem, item_granted, found_empty, FillsCell, WaitsForRoom, TakesItem, WaitsForItem, ChecksEmpty, found_drained, found_none, TestsRoom, sender_sleeps, room_came, TestsItem, no_item_yet, item_came, TestsDrained, receiver_sleeps, drained_meanwhile, ClearsOwn, FindsWake, FindsBitSet, OnlyStands, ShutsQueue, SetsBit, MovesNext, PaysCheck, ChecksOnce, MovesBy, Moves}
+use Rattle.fak_channel.specs.Moves.{Debt, Look, Check, None_owed, looks_for, with_looks, with_next, checked, refused_next, Calls, WasRefused, LoadsWord, passes, goes_round, finds, ClearsBit, LooksOnce, ClaimsRoom, room_granted, found_full, found_closed, ClaimsItem, item_granted, found_empty, FillsCell, WaitsForRoom, TakesItem, WaitsForItem, ChecksEmpty, found_drained, found_none, TestsRoom, sender_sleeps, room_came, TestsItem, no_item_yet, item_came, TestsDrained, receiver_sleeps, drained_meanwhile, ClearsOwn, FindsWake, FindsBitSet, OnlyStands, ShutsQueue, SetsBit, MovesNext, PaysCheck, ChecksOnce, MovesBy, Moves}
 use Rattle.fak_channel.specs.Channels.{NotesMore, HasFallenAsleep, HasTakenBack, Sends, FindsClosed, Receives, IsOver, ClosesAs}
 use Rattle.fak_channel.specs.Marks.{HasFoundFull, FullSoFar, HasFoundEmpty, EmptySoFar}
 use Rattle.fak_channel.specs.ChannelSteps.{Asked, Sending, Receiving, Closing, WaitsSince, RefusedSince, InsertsAs, DeletesAs, ShutsSince, EndsAs, SinceAt, CallSince, StepsTo, HasGoneOn, none, more}
@@ -51,7 +51,7 @@ module _ {T : Type 0} (old new : SleeperInfo T) where
       let same : marks_by new.seat ≡ marks_by old.seat = ap length (kinds_after size [] old.seat new.seat makes) in
       ap (λ (n : ℕ). let x : Note = record { kind = k; after = n } in x) (sym same)
 
-module _ {T : Type 0} {size : ℕ} (role : Role) {began old new : SleeperInfo T} where
+module _ {T : Type 0} {size : ℕ} (role : Role) (began old new : SleeperInfo T) where
   note_kept : (k : NoteKind) (rest : List Note) → Makes size [] old.seat new.seat → note_of k old ∷ rest ≡ note_of k new ∷ rest
   note_kept k rest makes = ap (λ (x : Note). x ∷ rest) (note_same old new k makes)
 
@@ -140,7 +140,7 @@ module _ {T : Type 0} (c : Channel T) (asked : Asked T) (began old new : Channel
   abbrev size : ℕ
   size = c.queue.size
 
-  s : CallStanding T
+  abbrev s : CallStanding T
   s = old.standing
 
   -- the call has come this far
@@ -187,7 +187,7 @@ module _ {T : Type 0} (c : Channel T) (asked : Asked T) (began old new : Channel
     check_since : (r : ChannelStep T) → s.checks ≡ true → ChecksOnce c old new r → StepsTo size asked began new r
     check_since GoesOn owed m = by m.drained m.checks m.stands
       where
-        by : (drained : Bool) → ChecksDrained size drained old.queue new.queue → new.standing ≡ _ → CallSince size asked began new
+        by : (drained : Bool) → ChecksDrained size drained old.queue new.queue → new.standing ≡ checked c.ends drained s → CallSince size asked began new
         by true l stands = by_standing _ stands (signed l.0) (owing_since size asked began old new l.0.makes s.next s q g l.0.left (λ o. both_of owed o.checks) so since.since)
         by false l stands = by_standing _ stands (signed l.0) (owing_since size asked began old new l.0.makes s.next s q g l.0.left (λ o. both_of owed o.checks) so since.since)
     check_since NotYet owed m = absurd m
@@ -281,7 +281,7 @@ module _ {T : Type 0} (c : Channel T) (asked : Asked T) (began old new : Channel
   empty_since h (found_none l stands) = by_standing _ stands (signed l.0) (refused_to Receive (refused_on size asked began old new l.0.makes Receive l.0.left h))
 
   room_test_since : (x : T) → RefusedSince size asked began (Send x) old → TestsRoom c old new x → CallSince size asked began new
-  room_test_since x h (sender_sleeps upper l full stands) = by_standing _ stands (signed l) (refused_on size asked began old new l.makes (Send x) l.left h, fallen Sender l since.notes)
+  room_test_since x h (sender_sleeps upper l full stands) = by_standing _ stands (signed l) (refused_on size asked began old new l.makes (Send x) l.left h, fallen Sender began.queue old.queue new.queue l since.notes)
   room_test_since x h (room_came l why stands) = by_standing _ stands (heard l) (refused_on size asked began old new l.makes (Send x) l.left h)
 
   item_test_since : RefusedSince size asked began Receive old → TestsItem c old new → CallSince size asked began new
@@ -289,7 +289,7 @@ module _ {T : Type 0} (c : Channel T) (asked : Asked T) (began old new : Channel
   item_test_since h (item_came l why stands) = by_standing _ stands (heard l) (refused_on size asked began old new l.makes Receive l.left h)
 
   drained_test_since : RefusedSince size asked began Receive old → TestsDrained c old new → CallSince size asked began new
-  drained_test_since h (receiver_sleeps l undrained stands) = by_standing _ stands (signed l) (refused_on size asked began old new l.makes Receive l.left h, fallen Receiver l since.notes)
+  drained_test_since h (receiver_sleeps l undrained stands) = by_standing _ stands (signed l) (refused_on size asked began old new l.makes Receive l.left h, fallen Receiver began.queue old.queue new.queue l since.notes)
   drained_test_since h (drained_meanwhile l why stands) = by_standing _ stands (heard l) (refused_on size asked began old new l.makes Receive l.left h)
 
   -- a refused call claims again
@@ -324,10 +324,14 @@ module _ {T : Type 0} (c : Channel T) (asked : Asked T) (began old new : Channel
   next_since Idle r is h m = absurd m
   next_since (Claiming (Send x)) GoesOn is h m = room_since x h m
   next_since (Claiming Receive) GoesOn is h m = item_since h m
-  next_since (Claiming w) NotYet is h m = absurd m
-  next_since (Claiming w) Sleeps is h m = absurd m
-  next_since (Claiming w) (Wakes k) is h m = absurd m
-  next_since (Claiming w) (Ends o) is h m = absurd m
+  next_since (Claiming (Send x)) NotYet is h m = absurd m
+  next_since (Claiming Receive) NotYet is h m = absurd m
+  next_since (Claiming (Send x)) Sleeps is h m = absurd m
+  next_since (Claiming Receive) Sleeps is h m = absurd m
+  next_since (Claiming (Send x)) (Wakes k) is h m = absurd m
+  next_since (Claiming Receive) (Wakes k) is h m = absurd m
+  next_since (Claiming (Send x)) (Ends o) is h m = absurd m
+  next_since (Claiming Receive) (Ends o) is h m = absurd m
   next_since Inserting GoesOn is h m = filled_since h m
   next_since Inserting NotYet is h m = room_waits_since is h m
   next_since Inserting Sleeps is h m = absurd m
@@ -350,10 +354,14 @@ module _ {T : Type 0} (c : Channel T) (asked : Asked T) (began old new : Channel
   next_since (Registering w) (Ends o) is h m = absurd m
   next_since (Testing (Send x)) GoesOn is h m = room_test_since x h m
   next_since (Testing Receive) GoesOn is h m = item_test_since h m
-  next_since (Testing w) NotYet is h m = absurd m
-  next_since (Testing w) Sleeps is h m = absurd m
-  next_since (Testing w) (Wakes k) is h m = absurd m
-  next_since (Testing w) (Ends o) is h m = absurd m
+  next_since (Testing (Send x)) NotYet is h m = absurd m
+  next_since (Testing Receive) NotYet is h m = absurd m
+  next_since (Testing (Send x)) Sleeps is h m = absurd m
+  next_since (Testing Receive) Sleeps is h m = absurd m
+  next_since (Testing (Send x)) (Wakes k) is h m = absurd m
+  next_since (Testing Receive) (Wakes k) is h m = absurd m
+  next_since (Testing (Send x)) (Ends o) is h m = absurd m
+  next_since (Testing Receive) (Ends o) is h m = absurd m
   next_since TestingDrained GoesOn is h m = drained_test_since h m
   next_since TestingDrained NotYet is h m = absurd m
   next_since TestingDrained Sleeps is h m = absurd m
@@ -367,7 +375,7 @@ module _ {T : Type 0} (c : Channel T) (asked : Asked T) (began old new : Channel
   next_since (Sleeping w) GoesOn is h m = own_since w false h.0 m.signs m.stands
   next_since (Sleeping w) NotYet is h m = absurd m
   next_since (Sleeping w) Sleeps is h m =
-      by_standing s m.stands (heard m.hears) (subst (λ (x : Next T). SinceAt size x asked began new) (sym is) (refused_on size asked began old new m.hears.makes w m.hears.left h.0, sleeps_on (role_of w) m.hears h.1))
+      by_standing s m.stands (heard m.hears) (subst (λ (x : Next T). SinceAt size x asked began new) (sym is) (refused_on size asked began old new m.hears.makes w m.hears.left h.0, sleeps_on (role_of w) began.queue old.queue new.queue m.hears h.1))
   next_since (Sleeping w) (Wakes k) is h m = absurd m
   next_since (Sleeping w) (Ends o) is h m = absurd m
   next_since (Refusing w) GoesOn is h m = absurd m
@@ -400,8 +408,8 @@ module _ {T : Type 0} (c : Channel T) (asked : Asked T) (began old new : Channel
       subst (λ (v : Outcome T). EndsAs size asked v began new) (sym m.0) (subst (λ (q : SleeperInfo T). EndsAs size asked o began (record old { queue = q })) (sym m.1.same) h)
 
 -- a step of a call adds to what the call has done
-pub moved_since : {T : Type 0} (c : Channel T) {old new : ChannelSeat T} → IsStepSeatOf c old → (r : ChannelStep T) → Moves c old new r → (asked : Asked T) (began : ChannelSeat T) → CallSince c.queue.size asked began old → StepsTo c.queue.size asked began new r
-moved_since {T} c {old} {new} S r m asked began since = by old.standing.senders.is_owed old.standing.receivers.is_owed old.standing.checks refl refl refl m
+pub moved_since : {T : Type 0} (c : Channel T) (old new : ChannelSeat T) → IsStepSeatOf c old → (r : ChannelStep T) → Moves c old new r → (asked : Asked T) (began : ChannelSeat T) → CallSince c.queue.size asked began old → StepsTo c.queue.size asked began new r
+moved_since {T} c old new S r m asked began since = by old.standing.senders.is_owed old.standing.receivers.is_owed old.standing.checks refl refl refl m
   where
     by : (a b d : Bool) → old.standing.senders.is_owed ≡ a → old.standing.receivers.is_owed ≡ b → old.standing.checks ≡ d → MovesBy c old new (if a then Look Sender else (if b then Look Receiver else (if d then Check else None_owed))) r → StepsTo c.queue.size asked began new r
     by true b d ea eb ed m = looks_since c asked began old new since old.queue (account_of_seat old.queue) S.next Sender old.standing.senders.found r ea m

@@ -39,6 +39,30 @@ passed_one from words left v below few small is = grind (arith, nat_tests)
 passed_last : (from words left v : ℕ) → from < 64 * words → left ≤ 1 → v < words → ((from / 64 ≤ v) × (v < from / 64 + left)) ⊎ (v + words < from / 64 + left) → v ≡ from / 64
 passed_last from words left v below few small is = grind arith
 
+or_right : (a b : Bool) → b ≡ true → a || b ≡ true
+or_right a b is = grind (common_steps, is)
+
+or_left : (a b : Bool) → a ≡ true → a || b ≡ true
+or_left a b is = grind (common_steps, is)
+
+same_number : (a b : ℕ) → a ≡ b → (a == b) ≡ true
+same_number a b is = grind (arith, nat_tests)
+
+-- the word of this number is passed too
+abbrev now_passed : Looks → Duty → ℕ → Bool
+now_passed l g v = (v == word_at l) || g.passed v
+
+now_true : (l : Looks) (g : Duty) (v : ℕ) → g.passed v ≡ true → now_passed l g v ≡ true
+now_true l g v is = or_right (v == word_at l) (g.passed v) is
+
+now_own : (l : Looks) (g : Duty) (v : ℕ) → v ≡ word_at l → now_passed l g v ≡ true
+now_own l g v is = or_left (v == word_at l) (g.passed v) (same_number v (word_at l) is)
+
+less_of_one : (n : ℕ) → n ≤ 1 → less n ≡ 0
+less_of_one zero few = refl
+less_of_one (suc zero) few = refl
+less_of_one (suc (suc n)) few = omega (arith, few)
+
 module _ {ends : ℕ} {l : Looks} {g : Duty} where
   -- the stage does not matter
   pub covers_same : (h : Duty) → h.looks ≡ g.looks → h.passed ≡ g.passed → Covers ends l g → Covers ends l h
@@ -63,27 +87,17 @@ module _ {ends : ℕ} {l : Looks} {g : Duty} where
 
   -- ---- a look
 
-  -- the word of this number is passed too
-  now_passed : (v : ℕ) → Bool
-  now_passed v = (v == word_at l) || g.passed v
-
-  now_true : (v : ℕ) → g.passed v ≡ true → now_passed v ≡ true
-  now_true v is = grind (common_steps, nat_tests)
-
-  now_own : (v : ℕ) → v ≡ word_at l → now_passed v ≡ true
-  now_own v is = grind (common_steps, nat_tests)
-
   -- the last word is passed
-  all_passed : l.is_owed ≡ true → Covers ends l g → l.left ≤ 1 → has_passed ends now_passed ≡ true
-  all_passed owed c few = all_true (λ k. now_passed (k / 64)) ends (λ k below. by k (omega (arith, below)) (same_or_not (k / 64) (word_at l)))
+  all_passed : l.is_owed ≡ true → Covers ends l g → l.left ≤ 1 → has_passed ends (now_passed l g) ≡ true
+  all_passed owed c few = all_true (λ k. now_passed l g (k / 64)) ends (λ k below. by k (omega (arith, below)) (same_or_not (k / 64) (word_at l)))
     where
-      by : (k : ℕ) → k / 64 < words_of ends → (k / 64 ≡ word_at l) ⊎ (k / 64 ≢ word_at l) → now_passed (k / 64) ≡ true
-      by k small (inl own) = now_own (k / 64) own
-      by k small (inr other) = now_true (k / 64) (c.passed owed (k / 64) small (λ to. other (passed_last l.from (words_of ends) l.left (k / 64) c.from few small to)))
+      by : (k : ℕ) → k / 64 < words_of ends → (k / 64 ≡ word_at l) ⊎ (k / 64 ≢ word_at l) → now_passed l g (k / 64) ≡ true
+      by k small (inl own) = now_own l g (k / 64) own
+      by k small (inr other) = now_true l g (k / 64) (c.passed owed (k / 64) small (λ to. other (passed_last l.from (words_of ends) l.left (k / 64) c.from few small to)))
 
   pub covers_past : l.is_owed ≡ true → Covers ends l g → Covers ends (past_word ends l) (passes_word ends (word_at l) g)
   covers_past owed c = record {
-    few = few_looks (has_passed ends now_passed);
+    few = few_looks (has_passed ends (now_passed l g));
     owed = λ none. ap (λ b. if b then 0 else g.looks) (all_passed owed c (last none));
     from = (let n = next_below (words_of ends) (word_at l) (some_word c.from) in omega (arith, n));
     left = (let n = c.left in omega (arith, n));
@@ -101,9 +115,9 @@ module _ {ends : ℕ} {l : Looks} {g : Duty} where
       some_word : {n : ℕ} → l.from < 64 * n → 0 < n
       some_word less = omega (arith, less)
 
-      then_passed : (v : ℕ) → v < words_of ends → (IsToPass (words_of ends) (past_word ends l) v → ⊥) → (v ≡ word_at l) ⊎ (v ≢ word_at l) → now_passed v ≡ true
-      then_passed v below past (inl own) = now_own v own
-      then_passed v below past (inr other) = now_true v (c.passed owed v below (λ to. elim (passed_one l.from (words_of ends) l.left v c.from c.left below to) [ inl own ↦ other own | inr still ↦ past still ]))
+      then_passed : (v : ℕ) → v < words_of ends → (IsToPass (words_of ends) (past_word ends l) v → ⊥) → (v ≡ word_at l) ⊎ (v ≢ word_at l) → now_passed l g v ≡ true
+      then_passed v below past (inl own) = now_own l g v own
+      then_passed v below past (inr other) = now_true l g v (c.passed owed v below (λ to. elim (passed_one l.from (words_of ends) l.left v c.from c.left below to) [ inl own ↦ other own | inr still ↦ past still ]))
 
   pub covers_round : l.is_owed ≡ true → Covers ends l g → Covers ends (past_bits ends l) g
   covers_round owed c = record {
@@ -123,9 +137,6 @@ module _ {ends : ℕ} {l : Looks} {g : Duty} where
 
   pub covers_retrying : Covers ends l g → Covers ends (retrying l) g
   covers_retrying c = record { few = c.few; owed = c.owed; from = c.from; left = c.left; found = tt; passed = c.passed }
-
-  less_of_one : (n : ℕ) → n ≤ 1 → less n ≡ 0
-  less_of_one n few = grind (arith, common_steps)
 
   pub covers_done : (k : ℕ) → Covers ends l g → Covers ends (done_at ends k l) (record g { looks = less g.looks })
   covers_done k c = record {

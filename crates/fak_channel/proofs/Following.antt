@@ -27,8 +27,8 @@ asleep_call e = absurd (let f : state.Sleeping ≡ state.Idle = e in cc)
 pub asleep_in_call : {T : Type 0} (s : ChannelSeat T) → IsAsleep s → IsInCall s
 asleep_in_call s asleep = λ idle. asleep_call (sym asleep ∙ idle)
 
-module _ {T : Type 0} (c : Channel T) {old new : ChannelSeat T} where
-  s : CallStanding T
+module _ {T : Type 0} (c : Channel T) (old new : ChannelSeat T) where
+  abbrev s : CallStanding T
   s = old.standing
 
   -- the same kind of call, in the state that the step tells

@@ -29,22 +29,22 @@ module _ {T : Type 0} (c : Channel T) (old new : ChannelSeat T) (S : IsStepSeatO
   woken : old.standing.next ≡ Sleeping w → FindsWake c old new w → GaveUp c old new None
   woken is m =
       let so : StandsSo (Sleeping w) old.standing old.queue (account_of_seat old.queue) = subst (λ (x : Next T). StandsSo x old.standing old.queue (account_of_seat old.queue)) is S.next in
-      let moves : Moves c old new GoesOn = next_moves c S GoesOn so.stands.none (subst (λ (x : Next T). MovesNext c old new x GoesOn) (sym is) m) in
+      let moves : Moves c old new GoesOn = next_moves c old new S GoesOn so.stands.none (subst (λ (x : Next T). MovesNext c old new x GoesOn) (sym is) m) in
       let in_call : IsInCall old = λ idle. asleep_call (sym (ap call_state is) ∙ idle) in
-      let follows = moved_follows c GoesOn in_call moves in
-      record { stands = moved_stands c S GoesOn moves; after = follows.after; tries = follows.tries; call = λ asked began since. moved_since c S GoesOn moves asked began since }
+      let follows = moved_follows c old new GoesOn in_call moves in
+      record { stands = moved_stands c old new S GoesOn moves; after = follows.after; tries = follows.tries; call = λ asked began since. moved_since c old new S GoesOn moves asked began since }
 
   -- it takes its bit back
   took : old.standing.next ≡ Sleeping w → TakesOwn c old new w → GaveUp c old new (Some w)
   took is m = record {
-    stands = took_stands c S w is m;
+    stands = took_stands c old new S w is m;
     after = ap (λ (t : CallStanding T). call_state t.next) m.stands;
     tries = ap (λ (t : CallStanding T). t.tries) m.stands;
     call = λ asked began since. subst (λ (x : Next T). GivesUpFrom c.queue.size x asked began new w) (sym is) (by asked began (subst (λ (x : Next T). SinceAt c.queue.size x asked began old) is since.since));
   }
     where
       by : (asked : Asked T) (began : ChannelSeat T) → RefusedSince c.queue.size asked began w old × HasFallenAsleep (role_of w) began.queue old.queue → RefusedSince c.queue.size asked began w new × HasTakenBack (role_of w) began.queue new.queue
-      by asked began h = (refused_on c.queue.size asked began old new m.signs.makes w m.signs.left h.0, taken_back (role_of w) m.signs h.1)
+      by asked began h = (refused_on c.queue.size asked began old new m.signs.makes w m.signs.left h.0, taken_back (role_of w) began.queue old.queue new.queue m.signs h.1)
 
   pub gave_up_sleep : (r : Option (Wish T)) → old.standing.next ≡ Sleeping w → GivesUpSleep c old new w r → GaveUp c old new r
   gave_up_sleep None is m = woken is m
@@ -53,7 +53,7 @@ module _ {T : Type 0} (c : Channel T) (old new : ChannelSeat T) (S : IsStepSeatO
   -- a try that was refused
   pub gave_up_try : old.standing.next ≡ Refused w → OnlyStands c old new (with_next Idle old.standing) → GaveUp c old new (Some w)
   gave_up_try is m = record {
-    stands = refused_try_stands c S w is m;
+    stands = refused_try_stands c old new S w is m;
     after = ap (λ (t : CallStanding T). call_state t.next) m.stands;
     tries = ap (λ (t : CallStanding T). t.tries) m.stands;
     call = λ asked began since.

@@ -11,3 +11,4 @@ pub mod Observed
 pub mod GivingUp
 pub mod Begun
 pub mod Deals
+pub mod Pieces

@@ -41,38 +41,38 @@ module _ {T : Type 0} (c : Channel T) where
   module _ {old mid new : ChannelSeat T} (k : Continues c old mid) where
     pub goes_on : Moves c mid new GoesOn → Continues c old new
     goes_on m =
-        let f = moved_follows c GoesOn k.in_call m in
-        record { stands = moved_stands c k.stands GoesOn m; in_call = f.after; tries = f.tries ∙ k.tries; since = λ asked began since. moved_since c k.stands GoesOn m asked began (k.since asked began since) }
+        let f = moved_follows c mid new GoesOn k.in_call m in
+        record { stands = moved_stands c mid new k.stands GoesOn m; in_call = f.after; tries = f.tries ∙ k.tries; since = λ asked began since. moved_since c mid new k.stands GoesOn m asked began (k.since asked began since) }
 
     pub waits_on : Moves c mid new NotYet → Continues c old new
     waits_on m =
-        let f = moved_follows c NotYet k.in_call m in
-        record { stands = moved_stands c k.stands NotYet m; in_call = f.after; tries = f.tries ∙ k.tries; since = λ asked began since. moved_since c k.stands NotYet m asked began (k.since asked began since) }
+        let f = moved_follows c mid new NotYet k.in_call m in
+        record { stands = moved_stands c mid new k.stands NotYet m; in_call = f.after; tries = f.tries ∙ k.tries; since = λ asked began since. moved_since c mid new k.stands NotYet m asked began (k.since asked began since) }
 
     pub wakes_on : (number : ℕ) → Moves c mid new (Wakes number) → Continues c old new
     wakes_on number m =
-        let f = moved_follows c (Wakes number) k.in_call m in
-        record { stands = moved_stands c k.stands (Wakes number) m; in_call = f.after; tries = f.tries ∙ k.tries; since = λ asked began since. moved_since c k.stands (Wakes number) m asked began (k.since asked began since) }
+        let f = moved_follows c mid new (Wakes number) k.in_call m in
+        record { stands = moved_stands c mid new k.stands (Wakes number) m; in_call = f.after; tries = f.tries ∙ k.tries; since = λ asked began since. moved_since c mid new k.stands (Wakes number) m asked began (k.since asked began since) }
 
     pub sleeps_on : Moves c mid new Sleeps → Pauses c old new
     sleeps_on m =
-        let f = moved_follows c Sleeps k.in_call m in
+        let f = moved_follows c mid new Sleeps k.in_call m in
         record {
-          continues = record { stands = moved_stands c k.stands Sleeps m; in_call = asleep_in_call new f.after; tries = f.tries ∙ k.tries; since = λ asked began since. moved_since c k.stands Sleeps m asked began (k.since asked began since) };
+          continues = record { stands = moved_stands c mid new k.stands Sleeps m; in_call = asleep_in_call new f.after; tries = f.tries ∙ k.tries; since = λ asked began since. moved_since c mid new k.stands Sleeps m asked began (k.since asked began since) };
           asleep = f.after;
         }
 
     pub ended_stands : (o : Outcome T) → Moves c mid new (Ends o) → IsStepSeatOf c new
-    ended_stands o m = moved_stands c k.stands (Ends o) m
+    ended_stands o m = moved_stands c mid new k.stands (Ends o) m
 
     pub ended_idle : (o : Outcome T) → Moves c mid new (Ends o) → IsBetweenCalls new
-    ended_idle o m = (moved_follows c (Ends o) k.in_call m).after
+    ended_idle o m = (moved_follows c mid new (Ends o) k.in_call m).after
 
     pub ended_tries : (o : Outcome T) → Moves c mid new (Ends o) → new.standing.tries ≡ old.standing.tries
-    ended_tries o m = (moved_follows c (Ends o) k.in_call m).tries ∙ k.tries
+    ended_tries o m = (moved_follows c mid new (Ends o) k.in_call m).tries ∙ k.tries
 
     pub ended_all : (o : Outcome T) → Moves c mid new (Ends o) → EndsAll c.queue.size old new o
-    ended_all o m = λ asked began since. moved_since c k.stands (Ends o) m asked began (k.since asked began since)
+    ended_all o m = λ asked began since. moved_since c mid new k.stands (Ends o) m asked began (k.since asked began since)
 
     -- ---- runs, one after another
 

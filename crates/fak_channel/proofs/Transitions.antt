@@ -40,54 +40,54 @@ pub less_same : {a b : ℕ} (d e : ℕ) → a < b → d ≡ a → e ≡ b → d 
 less_same d e less one two = omega (arith, less, one, two)
 
 not_both : {A : Type 0} {b : Bool} → b ≡ true → b ≡ false → A
-not_both {A} {b} yes none = absurd (let f : true ≡ false = sym yes ∙ none in cc)
+not_both {A} {b} is is_not = absurd (let f : true ≡ false = sym is ∙ is_not in cc)
 
 small_name : (k from words ends : ℕ) → ends ≤ large_seats → words ≡ (ends + 63) / 64 → from < 64 * words → k / 64 ≡ from / 64 → k < large_seats
 small_name k from words ends few are below same = omega (arith, few, are, below, same)
 
 -- ---- the queue's part
 
-module _ {T : Type 0} {size : ℕ} {old new : SleeperInfo T} where
-  stint_same : {kinds : List (Kind T)} → Makes size kinds old.seat new.seat → new.seat.stint ≡ old.seat.stint
-  stint_same makes = ap (λ (s : SeatInfo (Mark T)). s.stint) makes.same_seat
+module _ {T : Type 0} {size : ℕ} (old new : SleeperInfo T) where
+  stint_same : (kinds : List (Kind T)) → Makes size kinds old.seat new.seat → new.seat.stint ≡ old.seat.stint
+  stint_same kinds makes = ap (λ (s : SeatInfo (Mark T)). s.stint) makes.same_seat
 
   -- a step on the bits
   may_step : {notes : List Note} {g : Account} → LeavesNoMark size notes g old new → MayClaim old → MayClaim new
-  may_step l may = record { idle = l.state ∙ may.idle; ticket = less_same (drawn_by new.seat) new.seat.stint may.ticket l.left (stint_same l.makes) }
+  may_step l may = record { idle = l.state ∙ may.idle; ticket = less_same (drawn_by new.seat) new.seat.stint may.ticket l.left (stint_same [] l.makes) }
 
   -- a refused claim
-  may_again : {kinds : List (Kind T)} → WasRefused size old new → Makes size kinds old.seat new.seat → MayClaim new
-  may_again was makes = record { idle = was.idle; ticket = less_same (drawn_by new.seat) new.seat.stint was.within was.drawn (stint_same makes) }
+  may_again : (kinds : List (Kind T)) → WasRefused size old new → Makes size kinds old.seat new.seat → MayClaim new
+  may_again kinds was makes = record { idle = was.idle; ticket = less_same (drawn_by new.seat) new.seat.stint was.within was.drawn (stint_same kinds makes) }
 
 -- ---- what comes next, while a debt is paid
 
 -- only states that may owe something can have a debt
-owing_next : {T : Type 0} (n : Next T) {s s' : CallStanding T} {q q' : SleeperInfo T} {g g' : Account} → s'.tries ≡ s.tries → (OwesNone s → ⊥) → (s.checks ≡ false → s'.checks ≡ false) → (ChecksIf s g → ChecksIf s' g') → (MayClaim q → MayClaim q') → state_of q'.seat ≡ state_of q.seat
+owing_next : {T : Type 0} (n : Next T) (s s' : CallStanding T) (q q' : SleeperInfo T) (g g' : Account) → s'.tries ≡ s.tries → (OwesNone s → ⊥) → (s.checks ≡ false → s'.checks ≡ false) → (ChecksIf s g → ChecksIf s' g') → (MayClaim q → MayClaim q') → state_of q'.seat ≡ state_of q.seat
     → (IsAwake g → IsAwake g') → StandsSo n s q g → StandsSo n s' q' g'
-owing_next Idle kind owes free if may same up h = absurd (owes h.none)
-owing_next (Claiming w) kind owes free if may same up h = absurd (owes h.none)
-owing_next Inserting kind owes free if may same up h = absurd (owes h.none)
-owing_next Deleting kind owes free if may same up h = absurd (owes h.none)
-owing_next Checking kind owes free if may same up h = record { queue = may h.queue; none = free h.none; stages = up h.stages }
-owing_next (Registering w) kind owes free if may same up h = record { stands = record { queue = may h.stands.queue; checks = if h.stands.checks; stages = up h.stands.stages }; tries = kind ∙ h.tries }
-owing_next (Testing w) kind owes free if may same up h = absurd (owes h.stands.none)
-owing_next TestingDrained kind owes free if may same up h = absurd (owes h.stands.none)
-owing_next (TakingBack w) kind owes free if may same up h = absurd (owes h.stands.none)
-owing_next (Sleeping w) kind owes free if may same up h = absurd (owes h.stands.none)
-owing_next (Refusing w) kind owes free if may same up h = record { stands = record { queue = may h.stands.queue; checks = if h.stands.checks; stages = up h.stands.stages }; tries = kind ∙ h.tries }
-owing_next (Refused w) kind owes free if may same up h = absurd (owes h.stands.none)
-owing_next Shutting kind owes free if may same up h = absurd (owes h.none)
-owing_next (Ending o) kind owes free if may same up h = record { queue = same ∙ h.queue; checks = if h.checks; stages = up h.stages }
+owing_next Idle s s' q q' g g' kind owes free keeps may same up h = absurd (owes h.none)
+owing_next (Claiming w) s s' q q' g g' kind owes free keeps may same up h = absurd (owes h.none)
+owing_next Inserting s s' q q' g g' kind owes free keeps may same up h = absurd (owes h.none)
+owing_next Deleting s s' q q' g g' kind owes free keeps may same up h = absurd (owes h.none)
+owing_next Checking s s' q q' g g' kind owes free keeps may same up h = record { queue = may h.queue; none = free h.none; stages = up h.stages }
+owing_next (Registering w) s s' q q' g g' kind owes free keeps may same up h = record { stands = record { queue = may h.stands.queue; checks = keeps h.stands.checks; stages = up h.stands.stages }; tries = kind ∙ h.tries }
+owing_next (Testing w) s s' q q' g g' kind owes free keeps may same up h = absurd (owes h.stands.none)
+owing_next TestingDrained s s' q q' g g' kind owes free keeps may same up h = absurd (owes h.stands.none)
+owing_next (TakingBack w) s s' q q' g g' kind owes free keeps may same up h = absurd (owes h.stands.none)
+owing_next (Sleeping w) s s' q q' g g' kind owes free keeps may same up h = absurd (owes h.stands.none)
+owing_next (Refusing w) s s' q q' g g' kind owes free keeps may same up h = record { stands = record { queue = may h.stands.queue; checks = keeps h.stands.checks; stages = up h.stands.stages }; tries = kind ∙ h.tries }
+owing_next (Refused w) s s' q q' g g' kind owes free keeps may same up h = absurd (owes h.stands.none)
+owing_next Shutting s s' q q' g g' kind owes free keeps may same up h = absurd (owes h.none)
+owing_next (Ending o) s s' q q' g g' kind owes free keeps may same up h = record { queue = same ∙ h.queue; checks = keeps h.checks; stages = up h.stages }
 
 -- with nothing owed, a standing that may owe something owes nothing
-module _ {T : Type 0} (c : Channel T) {old new : ChannelSeat T} (S : IsStepSeatOf c old) where
-  n : ℕ
+module _ {T : Type 0} (c : Channel T) (old new : ChannelSeat T) (S : IsStepSeatOf c old) where
+  abbrev n : ℕ
   n = c.ends
 
-  s : CallStanding T
+  abbrev s : CallStanding T
   s = old.standing
 
-  g : Account
+  abbrev g : Account
   g = account_of_seat old.queue
 
   -- the new standing agrees with the new account
@@ -127,64 +127,64 @@ module _ {T : Type 0} (c : Channel T) {old new : ChannelSeat T} (S : IsStepSeatO
   looked : {size : ℕ} (role : Role) → (looks_for role s).is_owed ≡ true → LoadsWord n size role (looks_for role s) old new → IsStepSeatOf c new
   looked Sender owed (passes signs stands) =
       put_signed (AsSender (PassesWord (word_at s.senders))) signs (record s { senders = past_word n s.senders }) stands (covers_past owed S.pays.senders) S.pays.receivers
-      (owing_next s.next refl (λ o. not_both owed o.senders) (λ e. e) (λ e. e) (λ may. may_step signs may) signs.state (λ up. record { sender = up.sender; receiver = up.receiver }) S.next)
+      (owing_next s.next s _ old.queue new.queue g _ refl (λ o. not_both owed o.senders) (λ e. e) (λ e. e) (λ may. may_step old.queue new.queue signs may) signs.state (λ up. record { sender = up.sender; receiver = up.receiver }) S.next)
   looked Sender owed (goes_round hears some stands) =
-      put_heard hears (record s { senders = past_bits n s.senders }) stands (covers_round owed S.pays.senders) S.pays.receivers (owing_next s.next refl (λ o. not_both owed o.senders) (λ e. e) (λ e. e) (λ may. may_step hears may) hears.state (λ up. up) S.next)
+      put_heard hears (record s { senders = past_bits n s.senders }) stands (covers_round owed S.pays.senders) S.pays.receivers (owing_next s.next s _ old.queue new.queue g _ refl (λ o. not_both owed o.senders) (λ e. e) (λ e. e) (λ may. may_step old.queue new.queue hears may) hears.state (λ up. up) S.next)
   looked Sender owed (finds k hears same some stands) =
       put_heard hears (record s { senders = finding k s.senders }) stands (covers_finding k (small_found s.senders g.sender k S.pays.senders same) S.pays.senders) S.pays.receivers
-      (owing_next s.next refl (λ o. not_both owed o.senders) (λ e. e) (λ e. e) (λ may. may_step hears may) hears.state (λ up. up) S.next)
+      (owing_next s.next s _ old.queue new.queue g _ refl (λ o. not_both owed o.senders) (λ e. e) (λ e. e) (λ may. may_step old.queue new.queue hears may) hears.state (λ up. up) S.next)
   looked Receiver owed (passes signs stands) =
       put_signed (AsReceiver (PassesWord (word_at s.receivers))) signs (record s { receivers = past_word n s.receivers }) stands S.pays.senders (covers_past owed S.pays.receivers)
-      (owing_next s.next refl (λ o. not_both owed o.receivers) (λ e. e) (λ e. e) (λ may. may_step signs may) signs.state (λ up. record { sender = up.sender; receiver = up.receiver }) S.next)
+      (owing_next s.next s _ old.queue new.queue g _ refl (λ o. not_both owed o.receivers) (λ e. e) (λ e. e) (λ may. may_step old.queue new.queue signs may) signs.state (λ up. record { sender = up.sender; receiver = up.receiver }) S.next)
   looked Receiver owed (goes_round hears some stands) =
-      put_heard hears (record s { receivers = past_bits n s.receivers }) stands S.pays.senders (covers_round owed S.pays.receivers) (owing_next s.next refl (λ o. not_both owed o.receivers) (λ e. e) (λ e. e) (λ may. may_step hears may) hears.state (λ up. up) S.next)
+      put_heard hears (record s { receivers = past_bits n s.receivers }) stands S.pays.senders (covers_round owed S.pays.receivers) (owing_next s.next s _ old.queue new.queue g _ refl (λ o. not_both owed o.receivers) (λ e. e) (λ e. e) (λ may. may_step old.queue new.queue hears may) hears.state (λ up. up) S.next)
   looked Receiver owed (finds k hears same some stands) =
       put_heard hears (record s { receivers = finding k s.receivers }) stands S.pays.senders (covers_finding k (small_found s.receivers g.receiver k S.pays.receivers same) S.pays.receivers)
-      (owing_next s.next refl (λ o. not_both owed o.receivers) (λ e. e) (λ e. e) (λ may. may_step hears may) hears.state (λ up. up) S.next)
+      (owing_next s.next s _ old.queue new.queue g _ refl (λ o. not_both owed o.receivers) (λ e. e) (λ e. e) (λ may. may_step old.queue new.queue hears may) hears.state (λ up. up) S.next)
 
   woke : {size : ℕ} (role : Role) (k : ℕ) → (looks_for role s).is_owed ≡ true → AddsNote size (as_role role (WakesEnd k)) old.queue new.queue → new.standing ≡ with_looks role (done_at n k (looks_for role s)) s → IsStepSeatOf c new
   woke Sender k owed signs stands =
       put_signed (AsSender (WakesEnd k)) signs (record s { senders = done_at n k s.senders }) stands (covers_done k S.pays.senders) S.pays.receivers
-      (owing_next s.next refl (λ o. not_both owed o.senders) (λ e. e) (λ e. e) (λ may. may_step signs may) signs.state (λ up. record { sender = up.sender; receiver = up.receiver }) S.next)
+      (owing_next s.next s _ old.queue new.queue g _ refl (λ o. not_both owed o.senders) (λ e. e) (λ e. e) (λ may. may_step old.queue new.queue signs may) signs.state (λ up. record { sender = up.sender; receiver = up.receiver }) S.next)
   woke Receiver k owed signs stands =
       put_signed (AsReceiver (WakesEnd k)) signs (record s { receivers = done_at n k s.receivers }) stands S.pays.senders (covers_done k S.pays.receivers)
-      (owing_next s.next refl (λ o. not_both owed o.receivers) (λ e. e) (λ e. e) (λ may. may_step signs may) signs.state (λ up. record { sender = up.sender; receiver = up.receiver }) S.next)
+      (owing_next s.next s _ old.queue new.queue g _ refl (λ o. not_both owed o.receivers) (λ e. e) (λ e. e) (λ may. may_step old.queue new.queue signs may) signs.state (λ up. record { sender = up.sender; receiver = up.receiver }) S.next)
 
   retried : {size : ℕ} (role : Role) → (looks_for role s).is_owed ≡ true → AddsNoNote size old.queue new.queue → new.standing ≡ with_looks role (retrying (looks_for role s)) s → IsStepSeatOf c new
   retried Sender owed hears stands =
-      put_heard hears (record s { senders = retrying s.senders }) stands (covers_retrying S.pays.senders) S.pays.receivers (owing_next s.next refl (λ o. not_both owed o.senders) (λ e. e) (λ e. e) (λ may. may_step hears may) hears.state (λ up. up) S.next)
+      put_heard hears (record s { senders = retrying s.senders }) stands (covers_retrying S.pays.senders) S.pays.receivers (owing_next s.next s _ old.queue new.queue g _ refl (λ o. not_both owed o.senders) (λ e. e) (λ e. e) (λ may. may_step old.queue new.queue hears may) hears.state (λ up. up) S.next)
   retried Receiver owed hears stands =
-      put_heard hears (record s { receivers = retrying s.receivers }) stands S.pays.senders (covers_retrying S.pays.receivers) (owing_next s.next refl (λ o. not_both owed o.receivers) (λ e. e) (λ e. e) (λ may. may_step hears may) hears.state (λ up. up) S.next)
+      put_heard hears (record s { receivers = retrying s.receivers }) stands S.pays.senders (covers_retrying S.pays.receivers) (owing_next s.next s _ old.queue new.queue g _ refl (λ o. not_both owed o.receivers) (λ e. e) (λ e. e) (λ may. may_step old.queue new.queue hears may) hears.state (λ up. up) S.next)
 
-  cleared : {size : ℕ} (role : Role) (k : ℕ) (r : ChannelStep T) → (looks_for role s).is_owed ≡ true → ClearsBit n size role (looks_for role s) old new k r → IsStepSeatOf c new
-  cleared role k GoesOn owed m = retried role owed m.0 m.1
-  cleared role k NotYet owed m = absurd m
-  cleared role k Sleeps owed m = absurd m
-  cleared role k (Wakes number) owed m = woke role k owed m.1 m.2
-  cleared role k (Ends o) owed m = absurd m
+  cleared : (size : ℕ) (role : Role) (k : ℕ) (r : ChannelStep T) → (looks_for role s).is_owed ≡ true → ClearsBit n size role (looks_for role s) old new k r → IsStepSeatOf c new
+  cleared size role k GoesOn owed m = retried role owed m.0 m.1
+  cleared size role k NotYet owed m = absurd m
+  cleared size role k Sleeps owed m = absurd m
+  cleared size role k (Wakes number) owed m = woke role k owed m.1 m.2
+  cleared size role k (Ends o) owed m = absurd m
 
-  looks_once : {size : ℕ} (role : Role) (found : Option ℕ) (r : ChannelStep T) → (looks_for role s).is_owed ≡ true → LooksOnce n size role (looks_for role s) old new found r → IsStepSeatOf c new
-  looks_once role None GoesOn owed m = looked role owed m
-  looks_once role None NotYet owed m = absurd m
-  looks_once role None Sleeps owed m = absurd m
-  looks_once role None (Wakes number) owed m = absurd m
-  looks_once role None (Ends o) owed m = absurd m
-  looks_once role (Some k) r owed m = cleared role k r owed m
+  looks_once : (size : ℕ) (role : Role) (found : Option ℕ) (r : ChannelStep T) → (looks_for role s).is_owed ≡ true → LooksOnce n size role (looks_for role s) old new found r → IsStepSeatOf c new
+  looks_once size role None GoesOn owed m = looked role owed m
+  looks_once size role None NotYet owed m = absurd m
+  looks_once size role None Sleeps owed m = absurd m
+  looks_once size role None (Wakes number) owed m = absurd m
+  looks_once size role None (Ends o) owed m = absurd m
+  looks_once size role (Some k) r owed m = cleared size role k r owed m
 
   -- ---- a check that is owed
 
-  few_owed : {looks : ℕ} → looks ≡ 0 → looks + 1 ≤ 1
-  few_owed none = omega (arith, none)
+  few_owed : (looks : ℕ) → looks ≡ 0 → looks + 1 ≤ 1
+  few_owed looks none = omega (arith, none)
 
   paid_check : (drained : Bool) {size : ℕ} → s.receivers.is_owed ≡ false → s.checks ≡ true → ChecksDrained size drained old.queue new.queue → new.standing ≡ checked n drained s → IsStepSeatOf c new
   paid_check true none owed m stands =
       let signs = m.0 in
-      put_signed (Checks true) signs (checked n true s) stands S.pays.senders (covers_owing (owes_look g.receiver) (few_owed (S.pays.receivers.owed none)) S.pays.receivers)
-      (owing_next s.next refl (λ o. not_both owed o.checks) (λ e. refl) (λ e f. refl) (λ may. may_step signs may) signs.state (λ up. record { sender = up.sender; receiver = up.receiver }) S.next)
+      put_signed (Checks true) signs (checked n true s) stands S.pays.senders (covers_owing (owes_look g.receiver) (few_owed g.receiver.looks (S.pays.receivers.owed none)) S.pays.receivers)
+      (owing_next s.next s _ old.queue new.queue g _ refl (λ o. not_both owed o.checks) (λ e. refl) (λ e f. refl) (λ may. may_step old.queue new.queue signs may) signs.state (λ up. record { sender = up.sender; receiver = up.receiver }) S.next)
   paid_check false none owed m stands =
       let signs = m.0 in
       put_signed (Checks false) signs (checked n false s) stands S.pays.senders S.pays.receivers
-      (owing_next s.next refl (λ o. not_both owed o.checks) (λ e. refl) (λ e f. refl) (λ may. may_step signs may) signs.state (λ up. record { sender = up.sender; receiver = up.receiver }) S.next)
+      (owing_next s.next s _ old.queue new.queue g _ refl (λ o. not_both owed o.checks) (λ e. refl) (λ e f. refl) (λ may. may_step old.queue new.queue signs may) signs.state (λ up. record { sender = up.sender; receiver = up.receiver }) S.next)
 
   -- ---- claims
 
@@ -198,8 +198,8 @@ module _ {T : Type 0} (c : Channel T) {old new : ChannelSeat T} (S : IsStepSeatO
     no_receiver : g.receiver.looks ≡ 0
     no_receiver = S.pays.receivers.owed none.receivers
 
-    one_at_most : {looks : ℕ} → looks ≡ 0 → looks ≤ 1
-    one_at_most zero_is = omega (arith, zero_is)
+    one_at_most : (looks : ℕ) → looks ≡ 0 → looks ≤ 1
+    one_at_most looks zero_is = omega (arith, zero_is)
 
     -- a refused claim of room: a try ends, and another call sets its bit
     refused_stands : (w : Wish T) (h : Account) → MayClaim new.queue → IsAwake h → StandsSo (refused_next s w) (with_next (refused_next s w) (room_made n s)) new.queue h
@@ -230,19 +230,19 @@ module _ {T : Type 0} (c : Channel T) {old new : ChannelSeat T} (S : IsStepSeatO
         where
           by : Makes c.queue.size (made.NoRoom ∷ []) old.queue.seat new.queue.seat ⊎ Makes c.queue.size (made.OverIn ∷ made.BackIn ∷ []) old.queue.seat new.queue.seat → IsStepSeatOf c new
           by (inl m) =
-              room_refused (made.NoRoom ∷ []) (refused_next s (Send x)) was m stands (one_at_most no_sender) refl refl
-              (refused_stands (Send x) (after_kinds n (reverse (made.NoRoom ∷ [])) g) (may_again was m) (record { sender = sender_tried; receiver = receiver_up }))
+              room_refused (made.NoRoom ∷ []) (refused_next s (Send x)) was m stands (one_at_most g.sender.looks no_sender) refl refl
+              (refused_stands (Send x) (after_kinds n (reverse (made.NoRoom ∷ [])) g) (may_again old.queue new.queue _ was m) (record { sender = sender_tried; receiver = receiver_up }))
           by (inr m) =
-              room_refused (made.OverIn ∷ made.BackIn ∷ []) (refused_next s (Send x)) was m stands (few_owed no_sender) refl refl
-              (refused_stands (Send x) (after_kinds n (reverse (made.OverIn ∷ made.BackIn ∷ [])) g) (may_again was m) (record { sender = sender_tried; receiver = receiver_up }))
+              room_refused (made.OverIn ∷ made.BackIn ∷ []) (refused_next s (Send x)) was m stands (few_owed g.sender.looks no_sender) refl refl
+              (refused_stands (Send x) (after_kinds n (reverse (made.OverIn ∷ made.BackIn ∷ [])) g) (may_again old.queue new.queue _ was m) (record { sender = sender_tried; receiver = receiver_up }))
       claimed_room free (found_closed was refuses stands) = by refuses
         where
           by : Makes c.queue.size (made.Closed ∷ []) old.queue.seat new.queue.seat ⊎ Makes c.queue.size (made.LateIn ∷ made.BackIn ∷ []) old.queue.seat new.queue.seat → IsStepSeatOf c new
           by (inl m) =
-              room_refused (made.Closed ∷ []) (Ending (outcome.Refused x)) was m stands (few_owed no_sender) refl refl
+              room_refused (made.Closed ∷ []) (Ending (outcome.Refused x)) was m stands (few_owed g.sender.looks no_sender) refl refl
               (record { queue = was.idle; checks = λ e. not_both refl e; stages = record { sender = sender_tried; receiver = receiver_up } })
           by (inr m) =
-              room_refused (made.LateIn ∷ made.BackIn ∷ []) (Ending (outcome.Refused x)) was m stands (few_owed no_sender) refl refl
+              room_refused (made.LateIn ∷ made.BackIn ∷ []) (Ending (outcome.Refused x)) was m stands (few_owed g.sender.looks no_sender) refl refl
               (record { queue = was.idle; checks = λ e. not_both refl e; stages = record { sender = sender_tried; receiver = receiver_up } })
 
     module _ (up : IsUp Receive g) where
@@ -256,7 +256,7 @@ module _ {T : Type 0} (c : Channel T) {old new : ChannelSeat T} (S : IsStepSeatO
           → (after_kinds n (reverse kinds) g).sender.looks ≡ g.sender.looks → (after_kinds n (reverse kinds) g).sender.passed ≡ g.sender.passed → IsAwake (after_kinds n (reverse kinds) g) → IsStepSeatOf c new
       item_refused kinds was makes stands few looks passed awake =
           put_called kinds was.calls makes (with_next Checking (item_made n s)) stands (covers_same (after_kinds n (reverse kinds) g).sender looks passed S.pays.senders) (covers_owing (after_kinds n (reverse kinds) g).receiver few S.pays.receivers)
-          (record { queue = may_again was makes; none = none.checks; stages = awake })
+          (record { queue = may_again old.queue new.queue kinds was makes; none = none.checks; stages = awake })
 
       claimed_item : ChecksIf s g → ClaimsItem c old new → IsStepSeatOf c new
       claimed_item free (item_granted k calls state claims stands) =
@@ -265,15 +265,15 @@ module _ {T : Type 0} (c : Channel T) {old new : ChannelSeat T} (S : IsStepSeatO
       claimed_item free (found_empty lower was refuses stands) = by refuses.makes
         where
           by : Makes c.queue.size (made.NoItem ∷ []) old.queue.seat new.queue.seat ⊎ Makes c.queue.size (made.OverOut ∷ made.BackOut ∷ []) old.queue.seat new.queue.seat → IsStepSeatOf c new
-          by (inl m) = item_refused (made.NoItem ∷ []) was m stands (one_at_most no_receiver) refl refl (record { sender = sender_up; receiver = receiver_tried })
-          by (inr m) = item_refused (made.OverOut ∷ made.BackOut ∷ []) was m stands (few_owed no_receiver) refl refl (record { sender = sender_up; receiver = receiver_tried })
+          by (inl m) = item_refused (made.NoItem ∷ []) was m stands (one_at_most g.receiver.looks no_receiver) refl refl (record { sender = sender_up; receiver = receiver_tried })
+          by (inr m) = item_refused (made.OverOut ∷ made.BackOut ∷ []) was m stands (few_owed g.receiver.looks no_receiver) refl refl (record { sender = sender_up; receiver = receiver_tried })
 
     -- ---- the rest of a granted call
 
     filled : IsAwake g → ChecksIf s g → FillsCell c old new → IsStepSeatOf c new
     filled up free m =
         put_called (made.Fill (ticket_in (state_of old.queue.seat)) ∷ made.EndIn ∷ []) m.calls m.fills (with_next (Ending outcome.Sent) (item_made n s)) m.stands (covers_same g.sender refl refl S.pays.senders)
-        (covers_owing (owes_look g.receiver) (few_owed no_receiver) S.pays.receivers) (record { queue = m.idle; checks = free; stages = record { sender = up.sender; receiver = up.receiver } })
+        (covers_owing (owes_look g.receiver) (few_owed g.receiver.looks no_receiver) S.pays.receivers) (record { queue = m.idle; checks = free; stages = record { sender = up.sender; receiver = up.receiver } })
 
     waits_for_room : IsAwake g → ChecksIf s g → IsInserting old.queue → s.next ≡ Inserting → WaitsForRoom c old new → IsStepSeatOf c new
     waits_for_room up free at_cell is m =
@@ -282,7 +282,7 @@ module _ {T : Type 0} (c : Channel T) {old new : ChannelSeat T} (S : IsStepSeatO
 
     taken : IsAwake g → TakesItem c old new → IsStepSeatOf c new
     taken up m =
-        put_called (made.Take (ticket_in (state_of old.queue.seat)) ∷ made.EndOut ∷ []) m.calls m.takes.makes (with_next (Ending (outcome.Received m.item)) (room_made n s)) m.stands (covers_owing (owes_look g.sender) (few_owed no_sender) S.pays.senders)
+        put_called (made.Take (ticket_in (state_of old.queue.seat)) ∷ made.EndOut ∷ []) m.calls m.takes.makes (with_next (Ending (outcome.Received m.item)) (room_made n s)) m.stands (covers_owing (owes_look g.sender) (few_owed g.sender.looks no_sender) S.pays.senders)
         (covers_same g.receiver refl refl S.pays.receivers) (record { queue = m.idle; checks = λ e. not_both refl e; stages = record { sender = up.sender; receiver = up.receiver } })
 
     waits_for_item : IsAwake g → ChecksIf s g → IsDeleting old.queue → s.next ≡ Deleting → WaitsForItem c old new → IsStepSeatOf c new
@@ -292,7 +292,7 @@ module _ {T : Type 0} (c : Channel T) {old new : ChannelSeat T} (S : IsStepSeatO
 
     shut_down : IsAwake g → ShutsQueue c old new → IsStepSeatOf c new
     shut_down up m =
-        put_called (made.Close ∷ []) m.calls (makes m.was_open m.shuts) (with_next (Ending (if m.was_open then outcome.Closed else outcome.WasClosed)) (room_made n s)) m.stands (covers_owing (owes_look g.sender) (few_owed no_sender) S.pays.senders)
+        put_called (made.Close ∷ []) m.calls (makes m.was_open m.shuts) (with_next (Ending (if m.was_open then outcome.Closed else outcome.WasClosed)) (room_made n s)) m.stands (covers_owing (owes_look g.sender) (few_owed g.sender.looks no_sender) S.pays.senders)
         (covers_same g.receiver refl refl S.pays.receivers) (record { queue = m.idle; checks = λ e. not_both refl e; stages = record { sender = up.sender; receiver = up.receiver } })
       where
         makes : (was_open : Bool) → ShutsAs c.queue.size was_open old.queue.seat new.queue.seat → Makes c.queue.size (made.Close ∷ []) old.queue.seat new.queue.seat
@@ -304,26 +304,26 @@ module _ {T : Type 0} (c : Channel T) {old new : ChannelSeat T} (S : IsStepSeatO
     tested_room : (x : T) → s.tries ≡ false → MayClaim old.queue → ChecksIf s g → StageFor (Send x) Registered g → TestsRoom c old new x → IsStepSeatOf c new
     tested_room x kind may free stage (sender_sleeps upper signs full stands) =
         put_signed (AsSender FallsAsleep) signs (with_next (Sleeping (Send x)) s) stands (covers_same (after_note n (AsSender FallsAsleep) g).sender refl refl S.pays.senders) S.pays.receivers
-        (record { stands = record { queue = may_step signs may; none = none_still (Sleeping (Send x)) none; checks = free; stages = record { sender = refl; receiver = stage.receiver } }; tries = kind })
+        (record { stands = record { queue = may_step old.queue new.queue signs may; none = none_still (Sleeping (Send x)) none; checks = free; stages = record { sender = refl; receiver = stage.receiver } }; tries = kind })
     tested_room x kind may free stage (room_came hears why stands) =
-        put_heard hears (with_next (TakingBack (Send x)) s) stands S.pays.senders S.pays.receivers (record { stands = record { queue = may_step hears may; none = none_still (TakingBack (Send x)) none; checks = free; stages = record { sender = ap relies_on_bit stage.sender; receiver = stage.receiver } }; tries = kind })
+        put_heard hears (with_next (TakingBack (Send x)) s) stands S.pays.senders S.pays.receivers (record { stands = record { queue = may_step old.queue new.queue hears may; none = none_still (TakingBack (Send x)) none; checks = free; stages = record { sender = ap relies_on_bit stage.sender; receiver = stage.receiver } }; tries = kind })
 
     tested_item : s.tries ≡ false → MayClaim old.queue → ChecksIf s g → StageFor Receive Registered g → TestsItem c old new → IsStepSeatOf c new
     tested_item kind may free stage (no_item_yet lower signs empty stands) =
         put_signed (AsReceiver FindsNoItem) signs (with_next TestingDrained s) stands S.pays.senders (covers_same (after_note n (AsReceiver FindsNoItem) g).receiver refl refl S.pays.receivers)
-        (record { stands = record { queue = may_step signs may; none = none_still TestingDrained none; checks = free; stages = record { sender = stage.sender; receiver = refl } }; tries = kind })
+        (record { stands = record { queue = may_step old.queue new.queue signs may; none = none_still TestingDrained none; checks = free; stages = record { sender = stage.sender; receiver = refl } }; tries = kind })
     tested_item kind may free stage (item_came hears why stands) =
-        put_heard hears (with_next (TakingBack Receive) s) stands S.pays.senders S.pays.receivers (record { stands = record { queue = may_step hears may; none = none_still (TakingBack Receive) none; checks = free; stages = record { sender = stage.sender; receiver = ap relies_on_bit stage.receiver } }; tries = kind })
+        put_heard hears (with_next (TakingBack Receive) s) stands S.pays.senders S.pays.receivers (record { stands = record { queue = may_step old.queue new.queue hears may; none = none_still (TakingBack Receive) none; checks = free; stages = record { sender = stage.sender; receiver = ap relies_on_bit stage.receiver } }; tries = kind })
 
     tested_drained : s.tries ≡ false → MayClaim old.queue → ChecksIf s g → StagesAre Awake PastLower g → TestsDrained c old new → IsStepSeatOf c new
     tested_drained kind may free stage (receiver_sleeps signs undrained stands) =
         put_signed (AsReceiver FallsAsleep) signs (with_next (Sleeping Receive) s) stands S.pays.senders (covers_same (after_note n (AsReceiver FallsAsleep) g).receiver refl refl S.pays.receivers)
-        (record { stands = record { queue = may_step signs may; none = none_still (Sleeping Receive) none; checks = free; stages = record { sender = stage.sender; receiver = refl } }; tries = kind })
+        (record { stands = record { queue = may_step old.queue new.queue signs may; none = none_still (Sleeping Receive) none; checks = free; stages = record { sender = stage.sender; receiver = refl } }; tries = kind })
     tested_drained kind may free stage (drained_meanwhile hears why stands) =
-        put_heard hears (with_next (TakingBack Receive) s) stands S.pays.senders S.pays.receivers (record { stands = record { queue = may_step hears may; none = none_still (TakingBack Receive) none; checks = free; stages = record { sender = stage.sender; receiver = ap relies_on_bit stage.receiver } }; tries = kind })
+        put_heard hears (with_next (TakingBack Receive) s) stands S.pays.senders S.pays.receivers (record { stands = record { queue = may_step old.queue new.queue hears may; none = none_still (TakingBack Receive) none; checks = free; stages = record { sender = stage.sender; receiver = ap relies_on_bit stage.receiver } }; tries = kind })
 
     -- the other role is awake
-    OtherAwake : Wish T → Type 0
+    abbrev OtherAwake : Wish T → Type 0
     OtherAwake (Send x) = g.receiver.stage ≡ Awake
     OtherAwake Receive = g.sender.stage ≡ Awake
 
@@ -334,16 +334,16 @@ module _ {T : Type 0} (c : Channel T) {old new : ChannelSeat T} (S : IsStepSeatO
     claims_again : (w : Wish T) {size : ℕ} → MayClaim old.queue → ChecksIf s g → OtherAwake w → (was_set : Bool) → TakesBit size (role_of w) was_set old.queue new.queue → new.standing ≡ with_next (Claiming w) s → IsStepSeatOf c new
     claims_again (Send x) may free other true signs stands =
         put_signed (AsSender TakesBack) signs (with_next (Claiming (Send x)) s) stands (covers_same (after_note n (AsSender TakesBack) g).sender refl refl S.pays.senders) S.pays.receivers
-        (record { queue = may_step signs may; none = none_still (Claiming (Send x)) none; checks = free; stages = record { sender = refl; receiver = other } })
+        (record { queue = may_step old.queue new.queue signs may; none = none_still (Claiming (Send x)) none; checks = free; stages = record { sender = refl; receiver = other } })
     claims_again (Send x) may free other false signs stands =
         put_signed (AsSender IsWoken) signs (with_next (Claiming (Send x)) s) stands (covers_same (after_note n (AsSender IsWoken) g).sender refl refl S.pays.senders) S.pays.receivers
-        (record { queue = may_step signs may; none = none_still (Claiming (Send x)) none; checks = free; stages = record { sender = refl; receiver = other } })
+        (record { queue = may_step old.queue new.queue signs may; none = none_still (Claiming (Send x)) none; checks = free; stages = record { sender = refl; receiver = other } })
     claims_again Receive may free other true signs stands =
         put_signed (AsReceiver TakesBack) signs (with_next (Claiming Receive) s) stands S.pays.senders (covers_same (after_note n (AsReceiver TakesBack) g).receiver refl refl S.pays.receivers)
-        (record { queue = may_step signs may; none = none_still (Claiming Receive) none; checks = free; stages = record { sender = other; receiver = refl } })
+        (record { queue = may_step old.queue new.queue signs may; none = none_still (Claiming Receive) none; checks = free; stages = record { sender = other; receiver = refl } })
     claims_again Receive may free other false signs stands =
         put_signed (AsReceiver IsWoken) signs (with_next (Claiming Receive) s) stands S.pays.senders (covers_same (after_note n (AsReceiver IsWoken) g).receiver refl refl S.pays.receivers)
-        (record { queue = may_step signs may; none = none_still (Claiming Receive) none; checks = free; stages = record { sender = other; receiver = refl } })
+        (record { queue = may_step old.queue new.queue signs may; none = none_still (Claiming Receive) none; checks = free; stages = record { sender = other; receiver = refl } })
 
     own_cleared : (w : Wish T) → MayClaim old.queue → ChecksIf s g → HasSet w g → ClearsOwn c old new w → IsStepSeatOf c new
     own_cleared (Send x) may free set m = claims_again (Send x) may free set.receiver m.was_set m.takes m.stands
@@ -352,26 +352,26 @@ module _ {T : Type 0} (c : Channel T) {old new : ChannelSeat T} (S : IsStepSeatO
     registered : (w : Wish T) → s.tries ≡ false → MayClaim old.queue → ChecksIf s g → IsAwake g → SetsBit c old new w → IsStepSeatOf c new
     registered (Send x) kind may free up m =
         put_signed (AsSender Registers) m.signs (with_next (Testing (Send x)) s) m.stands (covers_same (after_note n (AsSender Registers) g).sender refl refl S.pays.senders) S.pays.receivers
-        (record { stands = record { queue = may_step m.signs may; none = none_still (Testing (Send x)) none; checks = free; stages = record { sender = refl; receiver = up.receiver } }; tries = kind })
+        (record { stands = record { queue = may_step old.queue new.queue m.signs may; none = none_still (Testing (Send x)) none; checks = free; stages = record { sender = refl; receiver = up.receiver } }; tries = kind })
     registered Receive kind may free up m =
         put_signed (AsReceiver Registers) m.signs (with_next (Testing Receive) s) m.stands S.pays.senders (covers_same (after_note n (AsReceiver Registers) g).receiver refl refl S.pays.receivers)
-        (record { stands = record { queue = may_step m.signs may; none = none_still (Testing Receive) none; checks = free; stages = record { sender = up.sender; receiver = refl } }; tries = kind })
+        (record { stands = record { queue = may_step old.queue new.queue m.signs may; none = none_still (Testing Receive) none; checks = free; stages = record { sender = up.sender; receiver = refl } }; tries = kind })
 
     still_set : (w : Wish T) → s.tries ≡ false → MayClaim old.queue → ChecksIf s g → StageFor w Asleep g → s.next ≡ Sleeping w → FindsBitSet c old new → IsStepSeatOf c new
     still_set w kind may free stage is m =
-        put_heard m.hears s m.stands S.pays.senders S.pays.receivers (subst (λ (x : Next T). StandsSo x s new.queue g) (sym is) (record { stands = record { queue = may_step m.hears may; none = none; checks = free; stages = stage }; tries = kind }))
+        put_heard m.hears s m.stands S.pays.senders S.pays.receivers (subst (λ (x : Next T). StandsSo x s new.queue g) (sym is) (record { stands = record { queue = may_step old.queue new.queue m.hears may; none = none; checks = free; stages = stage }; tries = kind }))
 
     -- a check after a claim that found no item
     checked_empty : MayClaim old.queue → IsAwake g → ChecksEmpty c old new → IsStepSeatOf c new
     checked_empty may up (found_drained m stands) =
-        put_signed (Checks true) m.0 (with_next (Ending outcome.Drained) (checked n true s)) stands S.pays.senders (covers_owing (owes_look g.receiver) (few_owed no_receiver) S.pays.receivers)
+        put_signed (Checks true) m.0 (with_next (Ending outcome.Drained) (checked n true s)) stands S.pays.senders (covers_owing (owes_look g.receiver) (few_owed g.receiver.looks no_receiver) S.pays.receivers)
         (record { queue = m.signs.state ∙ may.idle; checks = λ e. refl; stages = record { sender = up.sender; receiver = up.receiver } })
     checked_empty may up (found_none m stands) =
         put_signed (Checks false) m.0 (with_next (refused_next s Receive) (checked n false s)) stands S.pays.senders S.pays.receivers (by s.tries refl)
       where
         by : (tries : Bool) → s.tries ≡ tries → StandsSo (if tries then Refusing Receive else Registering Receive) (with_next (if tries then Refusing Receive else Registering Receive) (checked n false s)) new.queue (after_note n (Checks false) g)
-        by true is = record { stands = record { queue = may_step m.0 may; checks = λ e. refl; stages = record { sender = up.sender; receiver = up.receiver } }; tries = is }
-        by false is = record { stands = record { queue = may_step m.0 may; checks = λ e. refl; stages = record { sender = up.sender; receiver = up.receiver } }; tries = is }
+        by true is = record { stands = record { queue = may_step old.queue new.queue m.0 may; checks = λ e. refl; stages = record { sender = up.sender; receiver = up.receiver } }; tries = is }
+        by false is = record { stands = record { queue = may_step old.queue new.queue m.0 may; checks = λ e. refl; stages = record { sender = up.sender; receiver = up.receiver } }; tries = is }
 
     -- nothing but the standing changes
     only_stands : (next : Next T) → OnlyStands c old new (with_next next s) → StandsSo next (with_next next s) old.queue g → IsStepSeatOf c new
@@ -389,10 +389,14 @@ module _ {T : Type 0} (c : Channel T) {old new : ChannelSeat T} (S : IsStepSeatO
     next_moved Idle r is h m = absurd m
     next_moved (Claiming (Send x)) GoesOn is h m = claimed_room x h.stages h.checks m
     next_moved (Claiming Receive) GoesOn is h m = claimed_item h.stages h.checks m
-    next_moved (Claiming w) NotYet is h m = absurd m
-    next_moved (Claiming w) Sleeps is h m = absurd m
-    next_moved (Claiming w) (Wakes k) is h m = absurd m
-    next_moved (Claiming w) (Ends o) is h m = absurd m
+    next_moved (Claiming (Send x)) NotYet is h m = absurd m
+    next_moved (Claiming Receive) NotYet is h m = absurd m
+    next_moved (Claiming (Send x)) Sleeps is h m = absurd m
+    next_moved (Claiming Receive) Sleeps is h m = absurd m
+    next_moved (Claiming (Send x)) (Wakes k) is h m = absurd m
+    next_moved (Claiming Receive) (Wakes k) is h m = absurd m
+    next_moved (Claiming (Send x)) (Ends o) is h m = absurd m
+    next_moved (Claiming Receive) (Ends o) is h m = absurd m
     next_moved Inserting GoesOn is h m = filled h.stages h.checks m
     next_moved Inserting NotYet is h m = waits_for_room h.stages h.checks h.queue is m
     next_moved Inserting Sleeps is h m = absurd m
@@ -415,10 +419,14 @@ module _ {T : Type 0} (c : Channel T) {old new : ChannelSeat T} (S : IsStepSeatO
     next_moved (Registering w) (Ends o) is h m = absurd m
     next_moved (Testing (Send x)) GoesOn is h m = tested_room x h.tries h.stands.queue h.stands.checks h.stands.stages m
     next_moved (Testing Receive) GoesOn is h m = tested_item h.tries h.stands.queue h.stands.checks h.stands.stages m
-    next_moved (Testing w) NotYet is h m = absurd m
-    next_moved (Testing w) Sleeps is h m = absurd m
-    next_moved (Testing w) (Wakes k) is h m = absurd m
-    next_moved (Testing w) (Ends o) is h m = absurd m
+    next_moved (Testing (Send x)) NotYet is h m = absurd m
+    next_moved (Testing Receive) NotYet is h m = absurd m
+    next_moved (Testing (Send x)) Sleeps is h m = absurd m
+    next_moved (Testing Receive) Sleeps is h m = absurd m
+    next_moved (Testing (Send x)) (Wakes k) is h m = absurd m
+    next_moved (Testing Receive) (Wakes k) is h m = absurd m
+    next_moved (Testing (Send x)) (Ends o) is h m = absurd m
+    next_moved (Testing Receive) (Ends o) is h m = absurd m
     next_moved TestingDrained GoesOn is h m = tested_drained h.tries h.stands.queue h.stands.checks h.stands.stages m
     next_moved TestingDrained NotYet is h m = absurd m
     next_moved TestingDrained Sleeps is h m = absurd m
@@ -471,8 +479,8 @@ module _ {T : Type 0} (c : Channel T) {old new : ChannelSeat T} (S : IsStepSeatO
   moved_stands r m = by s.senders.is_owed s.receivers.is_owed s.checks refl refl refl m
     where
       by : (a b d : Bool) → s.senders.is_owed ≡ a → s.receivers.is_owed ≡ b → s.checks ≡ d → MovesBy c old new (if a then Look Sender else (if b then Look Receiver else (if d then Check else None_owed))) r → IsStepSeatOf c new
-      by true b d ea eb ed m = looks_once Sender s.senders.found r ea m
-      by false true d ea eb ed m = looks_once Receiver s.receivers.found r eb m
+      by true b d ea eb ed m = looks_once c.queue.size Sender s.senders.found r ea m
+      by false true d ea eb ed m = looks_once c.queue.size Receiver s.receivers.found r eb m
       by false false true ea eb ed m = checked_once r eb ed m
       by false false false ea eb ed m = next_moved (record { senders = ea; receivers = eb; checks = ed }) s.next r refl S.next m
 

@@ -28,6 +28,7 @@ pub record IsFreshChannel {T : Type 0} (c : Channel T) : Type 0 where
 
 -- this many seats, named from `name` on, are still to be dealt
 pub record AreUndealt {T : Type 0} (c : Channel T) (stint name left : ℕ) (s : UndealtSeats T) : Type 0 where
+  pub fresh : IsFreshChannel c
   pub queues : s.queues.rest.items ≡ dealt (fresh_sleeper c.queue.object stint) name left
   pub queues_left : s.queues.rest.len ≡ left
 

@@ -5,7 +5,7 @@ ghost use Rattle.fak_model.specs.Limits.{IsInLargeRange, IsLargeFault};
 ghost use Rattle.fak_queue.specs.Refusals.{IsLargeSize};
 ghost use Rattle.fak_queue.specs.SleeperSeats.{fresh_sleeper, undealt_info};
 ghost use Rattle.fak_channel.specs.Standings.{IsSeatOf};
-ghost use Rattle.fak_channel.specs.Undealt.{AreUndealt, IsFreshChannel, dealt, fresh_channel_seats};
+ghost use Rattle.fak_channel.specs.Undealt.{AreUndealt, dealt, fresh_channel_seats};
 
 use crate::channel::Channel;
 use crate::seat::ChannelSeat;
@@ -56,8 +56,7 @@ impl<T: Drop> Channel<T> {
         stint: u64,
     ) -> Result<(Channel<T>, UndealtSeats<T>), LargeFault>
         ensures { MatchResult result (λ r. IsInLargeRange (IsLargeSize size) ends stint × (r.0.queue.size ≡ size)
-            × (r.0.queue.object.seats ≡ ends) × IsFreshChannel r.0
-            × AreUndealt r.0 stint 0 ends r.1) (IsLargeFault (IsLargeSize size) ends stint) }
+            × (r.0.queue.object.seats ≡ ends) × AreUndealt r.0 stint 0 ends r.1) (IsLargeFault (IsLargeSize size) ends stint) }
     {
         let (queue, rest) = match Queue::open_sleepers(alloc, size, ends, stint) {
             Ok(opened) => opened,

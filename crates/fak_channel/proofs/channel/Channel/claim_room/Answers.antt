@@ -1,15 +1,15 @@
-use Rattle.std.proofs.Common.{rules, ◌≡◌, ◌≤◌, ℕ, ◌+◌, ◌-◌, ◌*◌, ◌<◌, length, ◌/◌, ◌%◌, Bool, true, false, nat_eq, nat_lt, List, [], ◌∷◌, ◌++◌, slice_index_or, slice_set, bit_and, bit_or, Fits, w8, w32, w64, Bor, MutBor}
-use Rattle.fak_model.specs.Limits.{large_seats}
-use Rattle.fak_channel.specs.declared.standing.Next.TheVariants.{Checking, Claiming, Deleting, Inserting, Shutting}
-use Rattle.fak_channel.specs.declared.standing.Wish.TheVariants.{Receive, Send}
-use Rattle.fak_channel.specs.Moves.{MovesNext, at_next, item_made, refused_next, room_made, step_of}
-use Rattle.fak_channel.specs.Standings.{IsDeleting, IsIdle, IsInserting, MayClaim}
+use Rattle.std.proofs.Common.{subst}
+use Rattle.fak_queue.specs.Refusals.{RefusesInsertion}
+use Rattle.fak_channel.specs.Moves.{room_granted, found_full}
+use Rattle.fak_channel.proofs.Pieces.{refused_standing}
 use Rattle.fak_channel.proofs.channel.Channel.claim_room.Goals as goal
 
--- src/claiming.rt:48:5
 pub returns-in-Ok : goal.returns-in-Ok
-returns-in-Ok g c = ?
+returns-in-Ok g c = room_granted c.in-Ok.field-0 (record { object = c.in-Ok.ensures.object; notes = c.in-Ok.ensures.notes }) c.in-Ok.ensures.state c.in-Ok.ensures.call c.set_next.ensures
 
--- src/claiming.rt:48:5
 pub returns-in-Err-Full : goal.returns-in-Err-Full
-returns-in-Err-Full g c = ?
+returns-in-Err-Full g c =
+    let refused = subst (RefusesInsertion c.args.self.now.queue.size c.args.item c.args.seat.now.queue.seat c.claim_insert.new.self.seat) c.in-Err-Full.field-0-is c.in-Err-Full.ensures.call in
+    found_full c.in-Err-Full.field-0-0
+    (record { calls = record { object = c.in-Err-Full.ensures.object; notes = c.in-Err-Full.ensures.notes }; idle = c.in-Err-Full.ensures.state; within = refused.1; drawn = c.in-Err-Full.ensures.left }) refused.2
+    (refused_standing c.args.self.now.ends c.args.seat.now.standing c.owe_for_room.new.self c.set_next-in-Err-Full.new.self c.refused-next.result c.args.item c.in-Err-Full.item c.set_next-in-Err-Full.ensures c.refused-next.ensures c.owe_for_room.ensures refused.0)

@@ -5,46 +5,46 @@ use Rattle.fak_channel.specs.declared.standing.ChannelStep.TheVariants.{GoesOn, 
 use Rattle.fak_channel.proofs.channel.Channel.step.Goals as goal
 
 pub returns-in-GoesOn-clause-stands : goal.returns-in-GoesOn-clause-stands
-returns-in-GoesOn-clause-stands g c = moved_stands c.args.self.now c.requires.stands GoesOn c.in-GoesOn.ensures
+returns-in-GoesOn-clause-stands g c = moved_stands c.args.self.now c.args.seat.now c.advance.new.seat c.requires.stands GoesOn c.in-GoesOn.ensures
 
 pub returns-in-GoesOn-clause-after : goal.returns-in-GoesOn-clause-after
-returns-in-GoesOn-clause-after g c = (moved_follows c.args.self.now GoesOn c.requires.in_call c.in-GoesOn.ensures).after
+returns-in-GoesOn-clause-after g c = (moved_follows c.args.self.now c.args.seat.now c.advance.new.seat GoesOn c.requires.in_call c.in-GoesOn.ensures).after
 
 pub returns-in-GoesOn-clause-call : goal.returns-in-GoesOn-clause-call
-returns-in-GoesOn-clause-call g c = moved_since c.args.self.now c.requires.stands GoesOn c.in-GoesOn.ensures
+returns-in-GoesOn-clause-call g c = moved_since c.args.self.now c.args.seat.now c.advance.new.seat c.requires.stands GoesOn c.in-GoesOn.ensures
 
 pub returns-in-NotYet-clause-stands : goal.returns-in-NotYet-clause-stands
-returns-in-NotYet-clause-stands g c = moved_stands c.args.self.now c.requires.stands NotYet c.in-NotYet.ensures
+returns-in-NotYet-clause-stands g c = moved_stands c.args.self.now c.args.seat.now c.advance.new.seat c.requires.stands NotYet c.in-NotYet.ensures
 
 pub returns-in-NotYet-clause-after : goal.returns-in-NotYet-clause-after
-returns-in-NotYet-clause-after g c = (moved_follows c.args.self.now NotYet c.requires.in_call c.in-NotYet.ensures).after
+returns-in-NotYet-clause-after g c = (moved_follows c.args.self.now c.args.seat.now c.advance.new.seat NotYet c.requires.in_call c.in-NotYet.ensures).after
 
 pub returns-in-NotYet-clause-call : goal.returns-in-NotYet-clause-call
-returns-in-NotYet-clause-call g c = moved_since c.args.self.now c.requires.stands NotYet c.in-NotYet.ensures
+returns-in-NotYet-clause-call g c = moved_since c.args.self.now c.args.seat.now c.advance.new.seat c.requires.stands NotYet c.in-NotYet.ensures
 
 pub returns-in-Sleeps-clause-stands : goal.returns-in-Sleeps-clause-stands
-returns-in-Sleeps-clause-stands g c = moved_stands c.args.self.now c.requires.stands Sleeps c.in-Sleeps.ensures
+returns-in-Sleeps-clause-stands g c = moved_stands c.args.self.now c.args.seat.now c.advance.new.seat c.requires.stands Sleeps c.in-Sleeps.ensures
 
 pub returns-in-Sleeps-clause-after : goal.returns-in-Sleeps-clause-after
-returns-in-Sleeps-clause-after g c = (moved_follows c.args.self.now Sleeps c.requires.in_call c.in-Sleeps.ensures).after
+returns-in-Sleeps-clause-after g c = (moved_follows c.args.self.now c.args.seat.now c.advance.new.seat Sleeps c.requires.in_call c.in-Sleeps.ensures).after
 
 pub returns-in-Sleeps-clause-call : goal.returns-in-Sleeps-clause-call
-returns-in-Sleeps-clause-call g c = moved_since c.args.self.now c.requires.stands Sleeps c.in-Sleeps.ensures
+returns-in-Sleeps-clause-call g c = moved_since c.args.self.now c.args.seat.now c.advance.new.seat c.requires.stands Sleeps c.in-Sleeps.ensures
 
 pub returns-in-Wakes-clause-stands : goal.returns-in-Wakes-clause-stands
-returns-in-Wakes-clause-stands g c = moved_stands c.args.self.now c.requires.stands (Wakes c.in-Wakes.number) c.in-Wakes.ensures
+returns-in-Wakes-clause-stands g c = moved_stands c.args.self.now c.args.seat.now c.advance.new.seat c.requires.stands (Wakes c.in-Wakes.number) c.in-Wakes.ensures
 
 pub returns-in-Wakes-clause-after : goal.returns-in-Wakes-clause-after
-returns-in-Wakes-clause-after g c = (moved_follows c.args.self.now (Wakes c.in-Wakes.number) c.requires.in_call c.in-Wakes.ensures).after
+returns-in-Wakes-clause-after g c = (moved_follows c.args.self.now c.args.seat.now c.advance.new.seat (Wakes c.in-Wakes.number) c.requires.in_call c.in-Wakes.ensures).after
 
 pub returns-in-Wakes-clause-call : goal.returns-in-Wakes-clause-call
-returns-in-Wakes-clause-call g c = moved_since c.args.self.now c.requires.stands (Wakes c.in-Wakes.number) c.in-Wakes.ensures
+returns-in-Wakes-clause-call g c = moved_since c.args.self.now c.args.seat.now c.advance.new.seat c.requires.stands (Wakes c.in-Wakes.number) c.in-Wakes.ensures
 
 pub returns-in-Ends-clause-stands : goal.returns-in-Ends-clause-stands
-returns-in-Ends-clause-stands g c = moved_stands c.args.self.now c.requires.stands (Ends c.in-Ends.outcome) c.in-Ends.ensures
+returns-in-Ends-clause-stands g c = moved_stands c.args.self.now c.args.seat.now c.advance.new.seat c.requires.stands (Ends c.in-Ends.outcome) c.in-Ends.ensures
 
 pub returns-in-Ends-clause-after : goal.returns-in-Ends-clause-after
-returns-in-Ends-clause-after g c = (moved_follows c.args.self.now (Ends c.in-Ends.outcome) c.requires.in_call c.in-Ends.ensures).after
+returns-in-Ends-clause-after g c = (moved_follows c.args.self.now c.args.seat.now c.advance.new.seat (Ends c.in-Ends.outcome) c.requires.in_call c.in-Ends.ensures).after
 
 pub returns-in-Ends-clause-call : goal.returns-in-Ends-clause-call
-returns-in-Ends-clause-call g c = moved_since c.args.self.now c.requires.stands (Ends c.in-Ends.outcome) c.in-Ends.ensures
+returns-in-Ends-clause-call g c = moved_since c.args.self.now c.args.seat.now c.advance.new.seat c.requires.stands (Ends c.in-Ends.outcome) c.in-Ends.ensures

@@ -1,12 +1,10 @@
-use Rattle.std.proofs.Common.{rules, ◌≡◌, ℕ, ◌+◌, ◌-◌, ◌*◌, ◌<◌, ◌≤◌, length, ◌/◌, ◌%◌, Bool, true, false, nat_eq, nat_lt, List, [], ◌∷◌, ◌++◌, slice_index_or, slice_set, bit_and, bit_or, Fits, w8, w32, w64, Bor, MutBor}
-use Rattle.fak_channel_core.specs.SleeperSides.{Asleep, PastLower, Registered, Awake}
-use Rattle.fak_channel.specs.declared.standing.Next.TheVariants.{Registering, Sleeping, TakingBack, Testing, TestingDrained}
-use Rattle.fak_channel.specs.declared.standing.Wish.TheVariants.{Receive, Send}
-use Rattle.fak_queue.specs.SleeperSeats.{account_of_seat}
-use Rattle.fak_channel.specs.Moves.{GivesUpSleep, MovesNext, at_next, step_of}
-use Rattle.fak_channel.specs.Standings.{HasSet, IsAwake, MayClaim, StageFor, StagesAre, role_of}
+use Rattle.std.proofs.Common.{subst, Err}
+use Rattle.fak_queue.specs.SleeperSeats.{TestsRoom}
+use Rattle.fak_queue.specs.declared.found.NoRoom.{NoRoom}
+use Rattle.fak_channel.specs.Moves.{sender_sleeps}
 use Rattle.fak_channel.proofs.channel.Channel.test_room.Goals as goal
 
--- src/napping.rt:45:5
 pub returns-in-Err-Full : goal.returns-in-Err-Full
-returns-in-Err-Full g c = ?
+returns-in-Err-Full g c =
+    let tests = subst (λ (r : NoRoom). TestsRoom c.args.self.now.queue.size (Err r) c.args.seat.now.queue c.test_room_again.new.self) c.in-Err-Full.field-0-is c.in-Err-Full.ensures in
+    sender_sleeps c.in-Err-Full.field-0-0 tests.0 tests.1 c.set_next-in-Err-Full.ensures
