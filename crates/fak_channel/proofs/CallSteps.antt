@@ -31,7 +31,7 @@ use Rattle.fak_channel.specs.declared.standing.Wish.TheVariants.{Send, Receive}
 use Rattle.fak_channel.specs.Standings.{IsStepSeatOf, StandsSo, OwesNone, MayClaim, HasTicket, role_of, ticket_in}
 use Rattle.fak_channel.specs.Moves.{Debt, Look, Check, None_owed, looks_for, with_looks, with_next, checked, refused_next, Calls, WasRefused, LoadsWord, passes, goes_round, finds, ClearsBit, LooksOnce, ClaimsRoom, room_granted, found_full, found_closed, ClaimsItem, item_granted, found_empty, FillsCell, WaitsForRoom, TakesItem, WaitsForItem, ChecksEmpty, found_drained, found_none, TestsRoom, sender_sleeps, room_came, TestsItem, no_item_yet, item_came, TestsDrained, receiver_sleeps, drained_meanwhile, ClearsOwn, FindsWake, FindsBitSet, OnlyStands, ShutsQueue, SetsBit, MovesNext, PaysCheck, ChecksOnce, MovesBy, Moves}
 use Rattle.fak_channel.specs.Channels.{NotesMore, HasFallenAsleep, HasTakenBack, Sends, FindsClosed, Receives, IsOver, ClosesAs}
-use Rattle.fak_channel.specs.Marks.{HasFoundFull, FullSoFar, HasFoundEmpty, EmptySoFar}
+use Rattle.fak_channel.specs.Marks.{Looked, HasFoundFull, FullSoFar, HasFoundEmpty, EmptySoFar}
 use Rattle.fak_channel.specs.ChannelSteps.{Asked, Sending, Receiving, Closing, WaitsSince, RefusedSince, InsertsAs, DeletesAs, ShutsSince, EndsAs, SinceAt, CallSince, StepsTo, HasGoneOn, none, more}
 use Rattle.fak_channel.proofs.Marking.{looked_more, full_again, full_more, empty_again, empty_more, claimed_in, looked_in, claimed_out, looked_out, deleted_out, inserted_at_last, closed_at_last, made_first}
 
@@ -308,8 +308,48 @@ module _ {T : Type 0} (c : Channel T) (asked : Asked T) (began old new : Channel
   own_since w false h l stands = by_standing _ stands (signed l) (waits_again w (refused_on size asked began old new l.makes w l.left h))
 
   -- nothing but the standing changes
-  only_since : (next : Next T) → OnlyStands c old new (with_next next s) → SinceAt size next asked began old → CallSince size asked began new
-  only_since next m h = by_standing _ m.stands (subst (NotesMore began.queue) (sym m.same) since.notes) (subst (λ (q : SleeperInfo T). SinceAt size next asked began (record old { queue = q })) (sym m.same) h)
+  module _ (same : new.queue ≡ old.queue) where
+    seat_same : new.queue.seat ≡ old.queue.seat
+    seat_same = ap (λ (q : SleeperInfo T). q.seat) same
+
+    pub only_refused : (w : Wish T) → RefusedSince size asked began w old → RefusedSince size asked began w new
+    only_refused w h = by asked w h
+      where
+        by : (a : Asked T) (w : Wish T) → RefusedSince size a began w old → RefusedSince size a began w new
+        by (Sending x) (Send y) p = (p.0, subst (HasFoundFull size began.queue.seat) (sym seat_same) p.1)
+        by (Sending x) Receive p = absurd p
+        by Receiving (Send y) p = absurd p
+        by Receiving Receive p = subst (HasFoundEmpty size began.queue.seat) (sym seat_same) p
+        by Closing w p = absurd p
+
+    only_ended : (o : Outcome T) → EndsAs size asked o began old → EndsAs size asked o began new
+    only_ended o h = by asked o h
+      where
+        by : (a : Asked T) (o : Outcome T) → EndsAs size a o began old → EndsAs size a o began new
+        by (Sending x) outcome.Sent p = record { ticket = p.ticket; sent = p.sent; inserts = p.inserts; looks = subst (Looked size p.sent) (sym seat_same) p.looks }
+        by (Sending x) (outcome.Refused y) p = (p.0, record { found = p.1.found; closes = p.1.closes; looks = subst (Looked size p.1.found) (sym seat_same) p.1.looks })
+        by (Sending x) (outcome.Received y) p = absurd p
+        by (Sending x) outcome.Drained p = absurd p
+        by (Sending x) outcome.Worn p = absurd p
+        by (Sending x) outcome.Closed p = absurd p
+        by (Sending x) outcome.WasClosed p = absurd p
+        by Receiving outcome.Sent p = absurd p
+        by Receiving (outcome.Refused y) p = absurd p
+        by Receiving (outcome.Received x) p = record { began = p.began; empty = p.empty; ticket = p.ticket; taken = p.taken; deletes = p.deletes; looks = subst (Looked size p.taken) (sym seat_same) p.looks }
+        by Receiving outcome.Drained p = record { found = p.found; empty = p.empty; lawful = p.lawful; drained = p.drained; looks = subst (Looked size p.found) (sym seat_same) p.looks }
+        by Receiving outcome.Worn p = absurd p
+        by Receiving outcome.Closed p = absurd p
+        by Receiving outcome.WasClosed p = absurd p
+        by Closing outcome.Sent p = absurd p
+        by Closing (outcome.Refused y) p = absurd p
+        by Closing (outcome.Received x) p = absurd p
+        by Closing outcome.Drained p = absurd p
+        by Closing outcome.Worn p = absurd p
+        by Closing outcome.Closed p = record { shut = p.shut; shuts = p.shuts; looks = subst (Looked size p.shut) (sym seat_same) p.looks }
+        by Closing outcome.WasClosed p = record { shut = p.shut; shuts = p.shuts; looks = subst (Looked size p.shut) (sym seat_same) p.looks }
+
+  only_since : (next : Next T) → OnlyStands c old new (with_next next s) → SinceAt size next asked began new → CallSince size asked began new
+  only_since next m h = by_standing (with_next next s) m.stands (subst (NotesMore began.queue) (sym m.same) since.notes) h
 
   shut_since : ShutsSince size asked began old → ShutsQueue c old new → CallSince size asked began new
   shut_since h m = by_standing _ m.stands (called m.calls) (by asked m.was_open h m.shuts)
@@ -380,17 +420,10 @@ module _ {T : Type 0} (c : Channel T) (asked : Asked T) (began old new : Channel
   next_since (Sleeping w) (Ends o) is h m = absurd m
   next_since (Refusing w) GoesOn is h m = absurd m
   next_since (Refusing w) NotYet is h m = absurd m
-  next_since (Refusing w) Sleeps is h m = only_since (Refused w) m h
+  next_since (Refusing w) Sleeps is h m = only_since (Refused w) m (only_refused m.same w h)
   next_since (Refusing w) (Wakes k) is h m = absurd m
   next_since (Refusing w) (Ends o) is h m = absurd m
-  next_since (Refused w) GoesOn is h m = only_since (Claiming w) m (by asked w h)
-    where
-      by : (a : Asked T) (w : Wish T) → RefusedSince size a began w old → WaitsSince size a began w old
-      by (Sending x) (Send y) p = (p.0, inr p.1)
-      by (Sending x) Receive p = absurd p
-      by Receiving (Send y) p = absurd p
-      by Receiving Receive p = inr p
-      by Closing w p = absurd p
+  next_since (Refused w) GoesOn is h m = only_since (Claiming w) m (waits_again w (only_refused m.same w h))
   next_since (Refused w) NotYet is h m = absurd m
   next_since (Refused w) Sleeps is h m = absurd m
   next_since (Refused w) (Wakes k) is h m = absurd m
@@ -404,8 +437,7 @@ module _ {T : Type 0} (c : Channel T) (asked : Asked T) (began old new : Channel
   next_since (Ending o) NotYet is h m = absurd m
   next_since (Ending o) Sleeps is h m = absurd m
   next_since (Ending o) (Wakes k) is h m = absurd m
-  next_since (Ending o) (Ends p) is h m =
-      subst (λ (v : Outcome T). EndsAs size asked v began new) (sym m.0) (subst (λ (q : SleeperInfo T). EndsAs size asked o began (record old { queue = q })) (sym m.1.same) h)
+  next_since (Ending o) (Ends p) is h m = subst (λ (v : Outcome T). EndsAs size asked v began new) (sym m.0) (only_ended m.1.same o h)
 
 -- a step of a call adds to what the call has done
 pub moved_since : {T : Type 0} (c : Channel T) (old new : ChannelSeat T) → IsStepSeatOf c old → (r : ChannelStep T) → Moves c old new r → (asked : Asked T) (began : ChannelSeat T) → CallSince c.queue.size asked began old → StepsTo c.queue.size asked began new r

@@ -40,10 +40,12 @@ passed_last : (from words left v : ℕ) → from < 64 * words → left ≤ 1 →
 passed_last from words left v below few small is = grind arith
 
 or_right : (a b : Bool) → b ≡ true → a || b ≡ true
-or_right a b is = grind (common_steps, is)
+or_right true b is = refl
+or_right false b is = is
 
 or_left : (a b : Bool) → a ≡ true → a || b ≡ true
-or_left a b is = grind (common_steps, is)
+or_left true b is = refl
+or_left false b is = true_is_not_false (sym is)
 
 same_number : (a b : ℕ) → a ≡ b → (a == b) ≡ true
 same_number a b is = grind (arith, nat_tests)

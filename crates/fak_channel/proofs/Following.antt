@@ -57,22 +57,22 @@ module _ {T : Type 0} (c : Channel T) (old new : ChannelSeat T) where
   look_follows Receiver in_call (goes_round l some stands) = goes _ stands refl in_call
   look_follows Receiver in_call (finds k l same some stands) = goes _ stands refl in_call
 
-  clear_follows : {ends size : ℕ} (role : Role) (k : ℕ) (r : ChannelStep T) → IsInCall old → ClearsBit ends size role (looks_for role s) old new k r → Follows r
-  clear_follows Sender k GoesOn in_call m = goes _ m.1 refl in_call
-  clear_follows Receiver k GoesOn in_call m = goes _ m.1 refl in_call
-  clear_follows role k NotYet in_call m = absurd m
-  clear_follows role k Sleeps in_call m = absurd m
-  clear_follows Sender k (Wakes number) in_call m = wakes number _ m.2 refl in_call
-  clear_follows Receiver k (Wakes number) in_call m = wakes number _ m.2 refl in_call
-  clear_follows role k (Ends o) in_call m = absurd m
+  clear_follows : (ends size : ℕ) (role : Role) (k : ℕ) (r : ChannelStep T) → IsInCall old → ClearsBit ends size role (looks_for role s) old new k r → Follows r
+  clear_follows ends size Sender k GoesOn in_call m = goes _ m.1 refl in_call
+  clear_follows ends size Receiver k GoesOn in_call m = goes _ m.1 refl in_call
+  clear_follows ends size role k NotYet in_call m = absurd m
+  clear_follows ends size role k Sleeps in_call m = absurd m
+  clear_follows ends size Sender k (Wakes number) in_call m = wakes number _ m.2 refl in_call
+  clear_follows ends size Receiver k (Wakes number) in_call m = wakes number _ m.2 refl in_call
+  clear_follows ends size role k (Ends o) in_call m = absurd m
 
-  looks_follow : {ends size : ℕ} (role : Role) (found : Option ℕ) (r : ChannelStep T) → IsInCall old → LooksOnce ends size role (looks_for role s) old new found r → Follows r
-  looks_follow role None GoesOn in_call m = look_follows role in_call m
-  looks_follow role None NotYet in_call m = absurd m
-  looks_follow role None Sleeps in_call m = absurd m
-  looks_follow role None (Wakes number) in_call m = absurd m
-  looks_follow role None (Ends o) in_call m = absurd m
-  looks_follow role (Some k) r in_call m = clear_follows role k r in_call m
+  looks_follow : (ends size : ℕ) (role : Role) (found : Option ℕ) (r : ChannelStep T) → IsInCall old → LooksOnce ends size role (looks_for role s) old new found r → Follows r
+  looks_follow ends size role None GoesOn in_call m = look_follows role in_call m
+  looks_follow ends size role None NotYet in_call m = absurd m
+  looks_follow ends size role None Sleeps in_call m = absurd m
+  looks_follow ends size role None (Wakes number) in_call m = absurd m
+  looks_follow ends size role None (Ends o) in_call m = absurd m
+  looks_follow ends size role (Some k) r in_call m = clear_follows ends size role k r in_call m
 
   check_follows : (r : ChannelStep T) → IsInCall old → ChecksOnce c old new r → Follows r
   check_follows GoesOn in_call m = goes (checked c.ends m.drained s) m.stands refl in_call
@@ -196,7 +196,7 @@ module _ {T : Type 0} (c : Channel T) (old new : ChannelSeat T) where
   moved_follows r in_call m = by s.senders.is_owed s.receivers.is_owed s.checks refl refl refl m
     where
       by : (a b d : Bool) → s.senders.is_owed ≡ a → s.receivers.is_owed ≡ b → s.checks ≡ d → MovesBy c old new (if a then Look Sender else (if b then Look Receiver else (if d then Check else None_owed))) r → Follows r
-      by true b d ea eb ed m = looks_follow Sender s.senders.found r in_call m
-      by false true d ea eb ed m = looks_follow Receiver s.receivers.found r in_call m
+      by true b d ea eb ed m = looks_follow c.ends c.queue.size Sender s.senders.found r in_call m
+      by false true d ea eb ed m = looks_follow c.ends c.queue.size Receiver s.receivers.found r in_call m
       by false false true ea eb ed m = check_follows r in_call m
       by false false false ea eb ed m = next_follows s.next r refl in_call m

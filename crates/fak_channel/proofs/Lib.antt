@@ -12,3 +12,4 @@ pub mod GivingUp
 pub mod Begun
 pub mod Deals
 pub mod Pieces
+pub mod Callers

@@ -1,7 +1,7 @@
 -- Steps of a call, one after another.
 use Rattle.std.proofs.Common.{◌≡◌, ◌≢◌, Bool, true, false, refl, ap, sym, ◌∙◌, subst, Option, Some, None, ℕ}
 use Rattle.fak_channel_core.specs.SleeperMoves.{Account}
-use Rattle.fak_queue.specs.SleeperSeats.{SleeperInfo}
+use Rattle.fak_queue.specs.SleeperSeats.{SleeperInfo, account_of_seat}
 use Rattle.fak_channel.specs.declared.standing.CallStanding.{CallStanding}
 use Rattle.fak_channel.specs.declared.channel.Channel.{Channel}
 use Rattle.fak_channel.specs.declared.progress.Stop.{Stop}
@@ -35,10 +35,10 @@ pub record Pauses {T : Type 0} (c : Channel T) (old now : ChannelSeat T) : Type 
   pub asleep : IsAsleep now
 
 module _ {T : Type 0} (c : Channel T) where
-  pub begins_run : {old : ChannelSeat T} → IsStepSeatOf c old → IsInCall old → Continues c old old
-  begins_run stands in_call = record { stands = stands; in_call = in_call; tries = refl; since = λ asked began since. since }
+  pub begins_run : (old : ChannelSeat T) → IsStepSeatOf c old → IsInCall old → Continues c old old
+  begins_run old stands in_call = record { stands = stands; in_call = in_call; tries = refl; since = λ asked began since. since }
 
-  module _ {old mid new : ChannelSeat T} (k : Continues c old mid) where
+  module _ (old mid new : ChannelSeat T) (k : Continues c old mid) where
     pub goes_on : Moves c mid new GoesOn → Continues c old new
     goes_on m =
         let f = moved_follows c mid new GoesOn k.in_call m in
@@ -74,18 +74,19 @@ module _ {T : Type 0} (c : Channel T) where
     pub ended_all : (o : Outcome T) → Moves c mid new (Ends o) → EndsAll c.queue.size old new o
     ended_all o m = λ asked began since. moved_since c mid new k.stands (Ends o) m asked began (k.since asked began since)
 
+  module _ (old mid last : ChannelSeat T) (k : Continues c old mid) where
     -- ---- runs, one after another
 
-    pub stopped_asleep : {last : ChannelSeat T} → IsStepSeatOf c last → last.standing.tries ≡ mid.standing.tries → StopsAt c.queue.size mid last stop.Sleeps → Pauses c old last
-    stopped_asleep {last} stands tries stops = record {
+    pub stopped_asleep : IsStepSeatOf c last → last.standing.tries ≡ mid.standing.tries → StopsAt c.queue.size mid last stop.Sleeps → Pauses c old last
+    stopped_asleep stands tries stops = record {
       continues = record { stands = stands; in_call = asleep_in_call last stops.0; tries = tries ∙ k.tries; since = λ asked began since. stops.1 asked began (k.since asked began since) };
       asleep = stops.0;
     }
 
-    pub stopped_ended : {last : ChannelSeat T} (o : Outcome T) → StopsAt c.queue.size mid last (stop.Ends o) → EndsAll c.queue.size old last o
+    pub stopped_ended : (o : Outcome T) → StopsAt c.queue.size mid last (stop.Ends o) → EndsAll c.queue.size old last o
     stopped_ended o stops = λ asked began since. stops.1 asked began (k.since asked began since)
 
-    pub not_given_up : {last : ChannelSeat T} → IsStepSeatOf c last → IsInCall last → last.standing.tries ≡ mid.standing.tries → GivesUp c.queue.size mid last None → Continues c old last
+    pub not_given_up : IsStepSeatOf c last → IsInCall last → last.standing.tries ≡ mid.standing.tries → GivesUp c.queue.size mid last None → Continues c old last
     not_given_up stands in_call tries gives = record { stands = stands; in_call = in_call; tries = tries ∙ k.tries; since = λ asked began since. gives asked began (k.since asked began since) }
 
   -- ---- calls that are given up
@@ -107,31 +108,31 @@ module _ {T : Type 0} (c : Channel T) where
   given_up Shutting asked began last w h = absurd h
   given_up (Ending o) asked began last w h = absurd h
 
-  pub refused_all : {old mid last : ChannelSeat T} (w : Wish T) → Continues c old mid → GivesUp c.queue.size mid last (Some w) → RefusesAll c.queue.size old last w
-  refused_all {old} {mid} {last} w k gives = λ asked began since. given_up mid.standing.next asked began last w (gives asked began (k.since asked began since))
+  pub refused_all : (old mid last : ChannelSeat T) (w : Wish T) → Continues c old mid → GivesUp c.queue.size mid last (Some w) → RefusesAll c.queue.size old last w
+  refused_all old mid last w k gives = λ asked began since. given_up mid.standing.next asked began last w (gives asked began (k.since asked began since))
 
   -- one that is no try has slept
-  slept : (x : Next T) {s : CallStanding T} {q : SleeperInfo T} {g : Account} → s.tries ≡ false → StandsSo x s q g → (asked : Asked T) (began last : ChannelSeat T) (w : Wish T) → GivesUpFrom c.queue.size x asked began last w → RefusedSince c.queue.size asked began w last × HasTakenBack (role_of w) began.queue last.queue
-  slept Idle no_try so asked began last w h = absurd h
-  slept (Claiming v) no_try so asked began last w h = absurd h
-  slept Inserting no_try so asked began last w h = absurd h
-  slept Deleting no_try so asked began last w h = absurd h
-  slept Checking no_try so asked began last w h = absurd h
-  slept (Registering v) no_try so asked began last w h = absurd h
-  slept (Testing v) no_try so asked began last w h = absurd h
-  slept TestingDrained no_try so asked began last w h = absurd h
-  slept (TakingBack v) no_try so asked began last w h = absurd h
-  slept (Sleeping v) no_try so asked began last w h = h
-  slept (Refusing v) no_try so asked began last w h = absurd h
-  slept (Refused v) no_try so asked began last w h = absurd (let f : true ≡ false = sym so.tries ∙ no_try in cc)
-  slept Shutting no_try so asked began last w h = absurd h
-  slept (Ending o) no_try so asked began last w h = absurd h
+  slept : (x : Next T) (s : CallStanding T) (q : SleeperInfo T) (g : Account) → s.tries ≡ false → StandsSo x s q g → (asked : Asked T) (began last : ChannelSeat T) (w : Wish T) → GivesUpFrom c.queue.size x asked began last w → RefusedSince c.queue.size asked began w last × HasTakenBack (role_of w) began.queue last.queue
+  slept Idle s q g no_try so asked began last w h = absurd h
+  slept (Claiming v) s q g no_try so asked began last w h = absurd h
+  slept Inserting s q g no_try so asked began last w h = absurd h
+  slept Deleting s q g no_try so asked began last w h = absurd h
+  slept Checking s q g no_try so asked began last w h = absurd h
+  slept (Registering v) s q g no_try so asked began last w h = absurd h
+  slept (Testing v) s q g no_try so asked began last w h = absurd h
+  slept TestingDrained s q g no_try so asked began last w h = absurd h
+  slept (TakingBack v) s q g no_try so asked began last w h = absurd h
+  slept (Sleeping v) s q g no_try so asked began last w h = h
+  slept (Refusing v) s q g no_try so asked began last w h = absurd h
+  slept (Refused v) s q g no_try so asked began last w h = absurd (let f : true ≡ false = sym so.tries ∙ no_try in cc)
+  slept Shutting s q g no_try so asked began last w h = absurd h
+  slept (Ending o) s q g no_try so asked began last w h = absurd h
 
-  pub wakes_none : {old mid last : ChannelSeat T} (w : Wish T) → Continues c old mid → old.standing.tries ≡ false → GivesUp c.queue.size mid last (Some w) → WakesNone c.queue.size old last w
-  wakes_none {old} {mid} {last} w k no_try gives = λ asked began since. slept mid.standing.next (k.tries ∙ no_try) k.stands.next asked began last w (gives asked began (k.since asked began since))
+  pub wakes_none : (old mid last : ChannelSeat T) (w : Wish T) → Continues c old mid → old.standing.tries ≡ false → GivesUp c.queue.size mid last (Some w) → WakesNone c.queue.size old last w
+  wakes_none old mid last w k no_try gives = λ asked began since. slept mid.standing.next mid.standing mid.queue (account_of_seat mid.queue) (k.tries ∙ no_try) k.stands.next asked began last w (gives asked began (k.since asked began since))
 
 -- ---- steps that each go on
 
-pub gone_on : {T : Type 0} (c : Channel T) {old now : ChannelSeat T} → IsStepSeatOf c old → IsInCall old → HasGoneOn c old now → Continues c old now
-gone_on c stands in_call none = begins_run c stands in_call
-gone_on c stands in_call (more mid now steps last) = goes_on c (gone_on c stands in_call steps) last
+pub gone_on : {T : Type 0} (c : Channel T) (old now : ChannelSeat T) → IsStepSeatOf c old → IsInCall old → HasGoneOn c old now → Continues c old now
+gone_on c old .old stands in_call none = begins_run c old stands in_call
+gone_on c old .now stands in_call (more mid now steps last) = goes_on c old mid now (gone_on c old mid stands in_call steps) last

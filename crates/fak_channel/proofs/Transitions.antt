@@ -30,7 +30,7 @@ use Rattle.fak_channel.specs.declared.standing.Outcome.TheVariants as outcome
 use Rattle.fak_channel.specs.declared.standing.Wish.{Wish}
 use Rattle.fak_channel.specs.declared.standing.Wish.TheVariants.{Send, Receive}
 use Rattle.fak_channel.specs.Looks.{words_of, word_at, owing, past_word, past_bits, finding, retrying, done_at, Covers}
-use Rattle.fak_channel.specs.Standings.{IsStepSeatOf, StandsSo, StandsClear, StandsOwing, StandsChecking, OwesNone, Pays, ChecksIf, MayClaim, HasTicket, IsIdle, IsInserting, IsDeleting, IsUp, HasSet, IsOfKind, IsAwake, StageFor, StagesAre, role_of, ticket_in, call_state, IsInCall, IsAsleep}
+use Rattle.fak_channel.specs.Standings.{IsStepSeatOf, StandsSo, StandsClear, StandsOwing, StandsChecking, OwesNone, Pays, ChecksIf, MayClaim, HasTicket, IsIdle, IsInserting, IsDeleting, IsUp, SenderIsUp, ReceiverIsUp, HasSet, IsOfKind, IsAwake, StageFor, StagesAre, role_of, ticket_in, call_state, IsInCall, IsAsleep}
 use Rattle.fak_channel.specs.Moves.{Debt, Look, Check, None_owed, first_debt, looks_for, with_looks, with_next, room_made, item_made, checked, refused_next, Calls, WasRefused, LoadsWord, passes, goes_round, finds, ClearsBit, GoesOnBy, LooksOnce, ClaimsRoom, room_granted, found_full, found_closed, ClaimsItem, item_granted, found_empty, FillsCell, WaitsForRoom, TakesItem, WaitsForItem, ChecksEmpty, found_drained, found_none, TestsRoom, sender_sleeps, room_came, TestsItem, no_item_yet, item_came, TestsDrained, receiver_sleeps, drained_meanwhile, ClearsOwn, FindsWake, TakesOwn, FindsBitSet, OnlyStands, ShutsQueue, SetsBit, MovesNext, PaysCheck, ChecksOnce, MovesBy, Moves}
 use Rattle.fak_channel.proofs.Covering.{covers_same, covers_owing, covers_past, covers_round, covers_finding, covers_retrying, covers_done}
 
@@ -176,12 +176,12 @@ module _ {T : Type 0} (c : Channel T) (old new : ChannelSeat T) (S : IsStepSeatO
   few_owed : (looks : ℕ) → looks ≡ 0 → looks + 1 ≤ 1
   few_owed looks none = omega (arith, none)
 
-  paid_check : (drained : Bool) {size : ℕ} → s.receivers.is_owed ≡ false → s.checks ≡ true → ChecksDrained size drained old.queue new.queue → new.standing ≡ checked n drained s → IsStepSeatOf c new
-  paid_check true none owed m stands =
+  paid_check : (size : ℕ) (drained : Bool) → s.receivers.is_owed ≡ false → s.checks ≡ true → ChecksDrained size drained old.queue new.queue → new.standing ≡ checked n drained s → IsStepSeatOf c new
+  paid_check size true none owed m stands =
       let signs = m.0 in
       put_signed (Checks true) signs (checked n true s) stands S.pays.senders (covers_owing (owes_look g.receiver) (few_owed g.receiver.looks (S.pays.receivers.owed none)) S.pays.receivers)
       (owing_next s.next s _ old.queue new.queue g _ refl (λ o. not_both owed o.checks) (λ e. refl) (λ e f. refl) (λ may. may_step old.queue new.queue signs may) signs.state (λ up. record { sender = up.sender; receiver = up.receiver }) S.next)
-  paid_check false none owed m stands =
+  paid_check size false none owed m stands =
       let signs = m.0 in
       put_signed (Checks false) signs (checked n false s) stands S.pays.senders S.pays.receivers
       (owing_next s.next s _ old.queue new.queue g _ refl (λ o. not_both owed o.checks) (λ e. refl) (λ e f. refl) (λ may. may_step old.queue new.queue signs may) signs.state (λ up. record { sender = up.sender; receiver = up.receiver }) S.next)
@@ -215,7 +215,7 @@ module _ {T : Type 0} (c : Channel T) (old new : ChannelSeat T) (S : IsStepSeatO
     room_refused kinds next was makes stands few looks passed next_so =
         put_called kinds was.calls makes (with_next next (room_made n s)) stands (covers_owing (after_kinds n (reverse kinds) g).sender few S.pays.senders) (covers_same (after_kinds n (reverse kinds) g).receiver looks passed S.pays.receivers) next_so
 
-    module _ (x : T) (up : IsUp (Send x) g) where
+    module _ (x : T) (up : SenderIsUp g) where
       sender_tried : tried_stage g.sender.stage ≡ Awake
       sender_tried = up.sender
 
@@ -231,10 +231,10 @@ module _ {T : Type 0} (c : Channel T) (old new : ChannelSeat T) (S : IsStepSeatO
           by : Makes c.queue.size (made.NoRoom ∷ []) old.queue.seat new.queue.seat ⊎ Makes c.queue.size (made.OverIn ∷ made.BackIn ∷ []) old.queue.seat new.queue.seat → IsStepSeatOf c new
           by (inl m) =
               room_refused (made.NoRoom ∷ []) (refused_next s (Send x)) was m stands (one_at_most g.sender.looks no_sender) refl refl
-              (refused_stands (Send x) (after_kinds n (reverse (made.NoRoom ∷ [])) g) (may_again old.queue new.queue _ was m) (record { sender = sender_tried; receiver = receiver_up }))
+              (refused_stands (Send x) (after_kinds n (reverse (made.NoRoom ∷ [])) g) (may_again old.queue new.queue (made.NoRoom ∷ []) was m) (record { sender = sender_tried; receiver = receiver_up }))
           by (inr m) =
               room_refused (made.OverIn ∷ made.BackIn ∷ []) (refused_next s (Send x)) was m stands (few_owed g.sender.looks no_sender) refl refl
-              (refused_stands (Send x) (after_kinds n (reverse (made.OverIn ∷ made.BackIn ∷ [])) g) (may_again old.queue new.queue _ was m) (record { sender = sender_tried; receiver = receiver_up }))
+              (refused_stands (Send x) (after_kinds n (reverse (made.OverIn ∷ made.BackIn ∷ [])) g) (may_again old.queue new.queue (made.OverIn ∷ made.BackIn ∷ []) was m) (record { sender = sender_tried; receiver = receiver_up }))
       claimed_room free (found_closed was refuses stands) = by refuses
         where
           by : Makes c.queue.size (made.Closed ∷ []) old.queue.seat new.queue.seat ⊎ Makes c.queue.size (made.LateIn ∷ made.BackIn ∷ []) old.queue.seat new.queue.seat → IsStepSeatOf c new
@@ -245,7 +245,7 @@ module _ {T : Type 0} (c : Channel T) (old new : ChannelSeat T) (S : IsStepSeatO
               room_refused (made.LateIn ∷ made.BackIn ∷ []) (Ending (outcome.Refused x)) was m stands (few_owed g.sender.looks no_sender) refl refl
               (record { queue = was.idle; checks = λ e. not_both refl e; stages = record { sender = sender_tried; receiver = receiver_up } })
 
-    module _ (up : IsUp Receive g) where
+    module _ (up : ReceiverIsUp g) where
       receiver_tried : tried_stage g.receiver.stage ≡ Awake
       receiver_tried = up.receiver
 
@@ -301,14 +301,14 @@ module _ {T : Type 0} (c : Channel T) (old new : ChannelSeat T) (S : IsStepSeatO
 
     -- ---- on the way to sleep
 
-    tested_room : (x : T) → s.tries ≡ false → MayClaim old.queue → ChecksIf s g → StageFor (Send x) Registered g → TestsRoom c old new x → IsStepSeatOf c new
+    tested_room : (x : T) → s.tries ≡ false → MayClaim old.queue → ChecksIf s g → StagesAre Registered Awake g → TestsRoom c old new x → IsStepSeatOf c new
     tested_room x kind may free stage (sender_sleeps upper signs full stands) =
         put_signed (AsSender FallsAsleep) signs (with_next (Sleeping (Send x)) s) stands (covers_same (after_note n (AsSender FallsAsleep) g).sender refl refl S.pays.senders) S.pays.receivers
         (record { stands = record { queue = may_step old.queue new.queue signs may; none = none_still (Sleeping (Send x)) none; checks = free; stages = record { sender = refl; receiver = stage.receiver } }; tries = kind })
     tested_room x kind may free stage (room_came hears why stands) =
         put_heard hears (with_next (TakingBack (Send x)) s) stands S.pays.senders S.pays.receivers (record { stands = record { queue = may_step old.queue new.queue hears may; none = none_still (TakingBack (Send x)) none; checks = free; stages = record { sender = ap relies_on_bit stage.sender; receiver = stage.receiver } }; tries = kind })
 
-    tested_item : s.tries ≡ false → MayClaim old.queue → ChecksIf s g → StageFor Receive Registered g → TestsItem c old new → IsStepSeatOf c new
+    tested_item : s.tries ≡ false → MayClaim old.queue → ChecksIf s g → StagesAre Awake Registered g → TestsItem c old new → IsStepSeatOf c new
     tested_item kind may free stage (no_item_yet lower signs empty stands) =
         put_signed (AsReceiver FindsNoItem) signs (with_next TestingDrained s) stands S.pays.senders (covers_same (after_note n (AsReceiver FindsNoItem) g).receiver refl refl S.pays.receivers)
         (record { stands = record { queue = may_step old.queue new.queue signs may; none = none_still TestingDrained none; checks = free; stages = record { sender = stage.sender; receiver = refl } }; tries = kind })
@@ -327,27 +327,27 @@ module _ {T : Type 0} (c : Channel T) (old new : ChannelSeat T) (S : IsStepSeatO
     OtherAwake (Send x) = g.receiver.stage ≡ Awake
     OtherAwake Receive = g.sender.stage ≡ Awake
 
-    other_awake : (w : Wish T) {stage : SleepStage} → StageFor w stage g → OtherAwake w
-    other_awake (Send x) h = h.receiver
-    other_awake Receive h = h.sender
+    other_awake : (w : Wish T) (stage : SleepStage) → StageFor w stage g → OtherAwake w
+    other_awake (Send x) stage h = h.receiver
+    other_awake Receive stage h = h.sender
 
-    claims_again : (w : Wish T) {size : ℕ} → MayClaim old.queue → ChecksIf s g → OtherAwake w → (was_set : Bool) → TakesBit size (role_of w) was_set old.queue new.queue → new.standing ≡ with_next (Claiming w) s → IsStepSeatOf c new
-    claims_again (Send x) may free other true signs stands =
+    claims_again : (size : ℕ) (w : Wish T) → MayClaim old.queue → ChecksIf s g → OtherAwake w → (was_set : Bool) → TakesBit size (role_of w) was_set old.queue new.queue → new.standing ≡ with_next (Claiming w) s → IsStepSeatOf c new
+    claims_again size (Send x) may free other true signs stands =
         put_signed (AsSender TakesBack) signs (with_next (Claiming (Send x)) s) stands (covers_same (after_note n (AsSender TakesBack) g).sender refl refl S.pays.senders) S.pays.receivers
         (record { queue = may_step old.queue new.queue signs may; none = none_still (Claiming (Send x)) none; checks = free; stages = record { sender = refl; receiver = other } })
-    claims_again (Send x) may free other false signs stands =
+    claims_again size (Send x) may free other false signs stands =
         put_signed (AsSender IsWoken) signs (with_next (Claiming (Send x)) s) stands (covers_same (after_note n (AsSender IsWoken) g).sender refl refl S.pays.senders) S.pays.receivers
         (record { queue = may_step old.queue new.queue signs may; none = none_still (Claiming (Send x)) none; checks = free; stages = record { sender = refl; receiver = other } })
-    claims_again Receive may free other true signs stands =
+    claims_again size Receive may free other true signs stands =
         put_signed (AsReceiver TakesBack) signs (with_next (Claiming Receive) s) stands S.pays.senders (covers_same (after_note n (AsReceiver TakesBack) g).receiver refl refl S.pays.receivers)
         (record { queue = may_step old.queue new.queue signs may; none = none_still (Claiming Receive) none; checks = free; stages = record { sender = other; receiver = refl } })
-    claims_again Receive may free other false signs stands =
+    claims_again size Receive may free other false signs stands =
         put_signed (AsReceiver IsWoken) signs (with_next (Claiming Receive) s) stands S.pays.senders (covers_same (after_note n (AsReceiver IsWoken) g).receiver refl refl S.pays.receivers)
         (record { queue = may_step old.queue new.queue signs may; none = none_still (Claiming Receive) none; checks = free; stages = record { sender = other; receiver = refl } })
 
     own_cleared : (w : Wish T) → MayClaim old.queue → ChecksIf s g → HasSet w g → ClearsOwn c old new w → IsStepSeatOf c new
-    own_cleared (Send x) may free set m = claims_again (Send x) may free set.receiver m.was_set m.takes m.stands
-    own_cleared Receive may free set m = claims_again Receive may free set.sender m.was_set m.takes m.stands
+    own_cleared (Send x) may free set m = claims_again c.queue.size (Send x) may free set.receiver m.was_set m.takes m.stands
+    own_cleared Receive may free set m = claims_again c.queue.size Receive may free set.sender m.was_set m.takes m.stands
 
     registered : (w : Wish T) → s.tries ≡ false → MayClaim old.queue → ChecksIf s g → IsAwake g → SetsBit c old new w → IsStepSeatOf c new
     registered (Send x) kind may free up m =
@@ -437,7 +437,7 @@ module _ {T : Type 0} (c : Channel T) (old new : ChannelSeat T) (S : IsStepSeatO
     next_moved (TakingBack w) Sleeps is h m = absurd m
     next_moved (TakingBack w) (Wakes k) is h m = absurd m
     next_moved (TakingBack w) (Ends o) is h m = absurd m
-    next_moved (Sleeping w) GoesOn is h m = claims_again w h.stands.queue h.stands.checks (other_awake w h.stands.stages) false m.signs m.stands
+    next_moved (Sleeping w) GoesOn is h m = claims_again c.queue.size w h.stands.queue h.stands.checks (other_awake w Asleep h.stands.stages) false m.signs m.stands
     next_moved (Sleeping w) NotYet is h m = absurd m
     next_moved (Sleeping w) Sleeps is h m = still_set w h.tries h.stands.queue h.stands.checks h.stands.stages is m
     next_moved (Sleeping w) (Wakes k) is h m = absurd m
@@ -468,7 +468,7 @@ module _ {T : Type 0} (c : Channel T) (old new : ChannelSeat T) (S : IsStepSeatO
     next_moved (Ending o) (Ends p) is h m = only_stands Idle m.1 (record { queue = h.queue; none = none_still Idle none; checks = h.checks; stages = h.stages })
 
   checked_once : (r : ChannelStep T) → s.receivers.is_owed ≡ false → s.checks ≡ true → ChecksOnce c old new r → IsStepSeatOf c new
-  checked_once GoesOn none owed m = paid_check m.drained none owed m.checks m.stands
+  checked_once GoesOn none owed m = paid_check c.queue.size m.drained none owed m.checks m.stands
   checked_once NotYet none owed m = absurd m
   checked_once Sleeps none owed m = absurd m
   checked_once (Wakes k) none owed m = absurd m

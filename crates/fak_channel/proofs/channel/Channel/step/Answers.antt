@@ -32,13 +32,13 @@ pub returns-in-Sleeps-clause-call : goal.returns-in-Sleeps-clause-call
 returns-in-Sleeps-clause-call g c = moved_since c.args.self.now c.args.seat.now c.advance.new.seat c.requires.stands Sleeps c.in-Sleeps.ensures
 
 pub returns-in-Wakes-clause-stands : goal.returns-in-Wakes-clause-stands
-returns-in-Wakes-clause-stands g c = moved_stands c.args.self.now c.args.seat.now c.advance.new.seat c.requires.stands (Wakes c.in-Wakes.number) c.in-Wakes.ensures
+returns-in-Wakes-clause-stands g c = moved_stands c.args.self.now c.args.seat.now c.advance.new.seat c.requires.stands (Wakes c.in-Wakes.field-0.number) c.in-Wakes.ensures
 
 pub returns-in-Wakes-clause-after : goal.returns-in-Wakes-clause-after
-returns-in-Wakes-clause-after g c = (moved_follows c.args.self.now c.args.seat.now c.advance.new.seat (Wakes c.in-Wakes.number) c.requires.in_call c.in-Wakes.ensures).after
+returns-in-Wakes-clause-after g c = (moved_follows c.args.self.now c.args.seat.now c.advance.new.seat (Wakes c.in-Wakes.field-0.number) c.requires.in_call c.in-Wakes.ensures).after
 
 pub returns-in-Wakes-clause-call : goal.returns-in-Wakes-clause-call
-returns-in-Wakes-clause-call g c = moved_since c.args.self.now c.args.seat.now c.advance.new.seat c.requires.stands (Wakes c.in-Wakes.number) c.in-Wakes.ensures
+returns-in-Wakes-clause-call g c = moved_since c.args.self.now c.args.seat.now c.advance.new.seat c.requires.stands (Wakes c.in-Wakes.field-0.number) c.in-Wakes.ensures
 
 pub returns-in-Ends-clause-stands : goal.returns-in-Ends-clause-stands
 returns-in-Ends-clause-stands g c = moved_stands c.args.self.now c.args.seat.now c.advance.new.seat c.requires.stands (Ends c.in-Ends.outcome) c.in-Ends.ensures
