@@ -134,5 +134,5 @@ module _ {T : Type 0} (c : Channel T) where
 -- ---- steps that each go on
 
 pub gone_on : {T : Type 0} (c : Channel T) (old now : ChannelSeat T) → IsStepSeatOf c old → IsInCall old → HasGoneOn c old now → Continues c old now
-gone_on c old .old stands in_call none = begins_run c old stands in_call
-gone_on c old .now stands in_call (more mid now steps last) = goes_on c old mid now (gone_on c old mid stands in_call steps) last
+gone_on c old _ stands in_call none = begins_run c old stands in_call
+gone_on c old _ stands in_call (more mid now steps last) = goes_on c old mid now (gone_on c old mid stands in_call steps) last

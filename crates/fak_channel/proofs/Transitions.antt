@@ -222,6 +222,10 @@ module _ {T : Type 0} (c : Channel T) (old new : ChannelSeat T) (S : IsStepSeatO
       receiver_up : g.receiver.stage ≡ Awake
       receiver_up = up.receiver
 
+      -- the marks of an insertion that was withdrawn
+      abbrev withdrawn : List (Kind T)
+      withdrawn = made.OverIn ∷ made.BackIn ∷ []
+
       claimed_room : ChecksIf s g → ClaimsRoom c old new x → IsStepSeatOf c new
       claimed_room free (room_granted k calls state claims stands) =
           put_called (made.ClaimIn ∷ made.Put x ∷ []) calls claims.makes (with_next Inserting s) stands (covers_same (tried g.sender) refl refl S.pays.senders) (covers_same g.receiver refl refl S.pays.receivers)
@@ -233,8 +237,8 @@ module _ {T : Type 0} (c : Channel T) (old new : ChannelSeat T) (S : IsStepSeatO
               room_refused (made.NoRoom ∷ []) (refused_next s (Send x)) was m stands (one_at_most g.sender.looks no_sender) refl refl
               (refused_stands (Send x) (after_kinds n (reverse (made.NoRoom ∷ [])) g) (may_again old.queue new.queue (made.NoRoom ∷ []) was m) (record { sender = sender_tried; receiver = receiver_up }))
           by (inr m) =
-              room_refused (made.OverIn ∷ made.BackIn ∷ []) (refused_next s (Send x)) was m stands (few_owed g.sender.looks no_sender) refl refl
-              (refused_stands (Send x) (after_kinds n (reverse (made.OverIn ∷ made.BackIn ∷ [])) g) (may_again old.queue new.queue (made.OverIn ∷ made.BackIn ∷ []) was m) (record { sender = sender_tried; receiver = receiver_up }))
+              room_refused withdrawn (refused_next s (Send x)) was m stands (few_owed g.sender.looks no_sender) refl refl
+              (refused_stands (Send x) (after_kinds n (reverse withdrawn) g) (may_again old.queue new.queue withdrawn was m) (record { sender = sender_tried; receiver = receiver_up }))
       claimed_room free (found_closed was refuses stands) = by refuses
         where
           by : Makes c.queue.size (made.Closed ∷ []) old.queue.seat new.queue.seat ⊎ Makes c.queue.size (made.LateIn ∷ made.BackIn ∷ []) old.queue.seat new.queue.seat → IsStepSeatOf c new
@@ -365,7 +369,7 @@ module _ {T : Type 0} (c : Channel T) (old new : ChannelSeat T) (S : IsStepSeatO
     checked_empty : MayClaim old.queue → IsAwake g → ChecksEmpty c old new → IsStepSeatOf c new
     checked_empty may up (found_drained m stands) =
         put_signed (Checks true) m.0 (with_next (Ending outcome.Drained) (checked n true s)) stands S.pays.senders (covers_owing (owes_look g.receiver) (few_owed g.receiver.looks no_receiver) S.pays.receivers)
-        (record { queue = m.signs.state ∙ may.idle; checks = λ e. refl; stages = record { sender = up.sender; receiver = up.receiver } })
+        (record { queue = m.0.state ∙ may.idle; checks = λ e. refl; stages = record { sender = up.sender; receiver = up.receiver } })
     checked_empty may up (found_none m stands) =
         put_signed (Checks false) m.0 (with_next (refused_next s Receive) (checked n false s)) stands S.pays.senders S.pays.receivers (by s.tries refl)
       where

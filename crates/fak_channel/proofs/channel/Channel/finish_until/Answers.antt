@@ -21,4 +21,4 @@ returns-in-Some-rest_until-clause-call g c =
 pub loop-preserved : goal.loop-preserved
 loop-preserved g c =
     let k = stopped_asleep c.args.self.now c.args.seat.now c.loop.seat c.run.new.seat c.loop.invariant c.run.ensures.stands c.run.ensures.tries c.in-Sleeps.ensures.call in
-    not_given_up c.args.self.now c.args.seat.now c.run.new.seat c.rest_until.new.seat k.continues c.rest_until.ensures.stands c.in_default-rest_until.ensures.after c.rest_until.ensures.tries c.in_default-rest_until.ensures.call
+    not_given_up c.args.self.now c.args.seat.now c.run.new.seat c.rest_until.new.seat k.continues c.rest_until.ensures.stands c.in_default.ensures.after c.rest_until.ensures.tries c.in_default.ensures.call
