@@ -11,10 +11,15 @@ use Rattle.fak_channel.specs.declared.standing.Next.{Next}
 use Rattle.fak_channel.specs.declared.standing.Next.TheVariants.{Idle, Claiming, Shutting}
 use Rattle.fak_channel.specs.declared.standing.Wish.{Wish}
 use Rattle.fak_channel.specs.declared.standing.Wish.TheVariants.{Send, Receive}
-use Rattle.fak_channel.specs.ChannelSteps.{Asked, Sending, Receiving, Closing, CallSince, SinceAt, BeginsAs}
+use Rattle.fak_channel.specs.ChannelSteps.{Asked, Sending, Receiving, Closing, CallSince, SinceAt, BeginsAs, BeginsAfterLook}
+use Rattle.fak_model.specs.declared.queue.Mark.{Mark}
+use Rattle.fak_model.specs.Calls.{SeatInfo}
+use Rattle.fak_channel.specs.Channels.{OnlyLooks}
+use Rattle.fak_channel.specs.Marks.{HasMade}
 use Rattle.fak_channel.specs.Moves.{with_next}
 use Rattle.fak_channel.specs.Standings.{IsStepSeatOf, IsBetweenCalls, IsInCall, IsUp, IsAwake, HasTicket, StandsSo, OwesNone, call_state}
 use Rattle.fak_channel.proofs.Following.{open_call}
+use Rattle.fak_channel.proofs.Transitions.{less_same}
 use Rattle.fak_channel.proofs.Waiting.{idle_so}
 
 -- the standing of a call that begins
@@ -71,3 +76,28 @@ module _ {T : Type 0} (size : ℕ) (q : SleeperInfo T) (s : CallStanding T) wher
 
   pub begins_closing : BeginsAs size false Closing (record { queue = q; standing = s }) (record { queue = q; standing = begun false Shutting s })
   begins_closing = begins_with false Shutting Closing refl refl
+
+-- ---- tries that begin with a look
+
+module _ {T : Type 0} (size : ℕ) (old looked new : ChannelSeat T) (looks : OnlyLooks size old looked) where
+  -- a ticket is left after the look
+  pub looked_ticket : (left : ℕ) → left + drawn_by old.queue.seat ≡ old.queue.seat.stint → left ≢ 0 → drawn_by looked.queue.seat ≡ drawn_by old.queue.seat → HasTicket looked.queue
+  looked_ticket left sum some drawn =
+      less_same (drawn_by looked.queue.seat) looked.queue.seat.stint (has_ticket left old.queue sum some) drawn (ap (λ (i : SeatInfo (Mark T)). i.stint) looks.looks.same_seat)
+
+  try_begins : (asked : Asked T) (w : Wish T) → new.queue ≡ looked.queue → new.standing ≡ begun true (Claiming w) looked.standing → SinceAt size (Claiming w) asked new new → BeginsAfterLook size asked old new
+  try_begins asked w queue stands since = record {
+    looks = subst (λ (q : SleeperInfo T). HasMade size [] old.queue.seat q.seat) (sym queue) looks.looks;
+    same_notes = ap (λ (q : SleeperInfo T). q.notes) queue ∙ looks.same_notes;
+    begins = record {
+      in_call = subst (λ (t : CallStanding T). call_state t.next ≢ state.Idle) (sym stands) (λ e. open_call e);
+      tries = ap (λ (t : CallStanding T). t.tries) stands;
+      call = record { notes = ([], refl); since = subst (λ (t : CallStanding T). SinceAt size t.next asked new new) (sym stands) since };
+    };
+  }
+
+  pub try_sends : (x : T) → new.queue ≡ looked.queue → new.standing ≡ begun true (Claiming (Send x)) looked.standing → BeginsAfterLook size (Sending x) old new
+  try_sends x queue stands = try_begins (Sending x) (Send x) queue stands (refl, inl refl)
+
+  pub try_receives : new.queue ≡ looked.queue → new.standing ≡ begun true (Claiming Receive) looked.standing → BeginsAfterLook size Receiving old new
+  try_receives queue stands = try_begins Receiving Receive queue stands (inl refl)

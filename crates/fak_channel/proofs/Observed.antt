@@ -14,7 +14,7 @@ use Rattle.fak_channel.specs.declared.standing.Next.TheVariants.{Idle, Claiming,
 use Rattle.fak_channel.specs.Standings.{IsStepSeatOf, StandsSo, StandsClear, Pays, MayClaim, IsIdle, IsInserting, IsDeleting, ticket_in}
 use Rattle.fak_channel.proofs.Transitions.{less_same}
 
-module _ {T : Type 0} {q q' : SleeperInfo T} (state : state_of q'.seat ≡ state_of q.seat) (drawn : drawn_by q'.seat ≡ drawn_by q.seat) (stint : q'.seat.stint ≡ q.seat.stint) where
+module _ {T : Type 0} (q q' : SleeperInfo T) (state : state_of q'.seat ≡ state_of q.seat) (drawn : drawn_by q'.seat ≡ drawn_by q.seat) (stint : q'.seat.stint ≡ q.seat.stint) where
   may_still : MayClaim q → MayClaim q'
   may_still may = record { idle = state ∙ may.idle; ticket = less_same (drawn_by q'.seat) q'.seat.stint may.ticket drawn stint }
 
@@ -50,5 +50,5 @@ looked_stands {T} {size} c s old new S object keeps state drawn makes =
       cells = S.cells;
       few = S.few;
       pays = subst (Pays c.ends s) (sym account) S.pays;
-      next = subst (StandsSo s.next s new) (sym account) (next_still state drawn stint s.next s (account_of_seat old) S.next);
+      next = subst (StandsSo s.next s new) (sym account) (next_still old new state drawn stint s.next s (account_of_seat old) S.next);
     }

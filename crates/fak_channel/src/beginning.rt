@@ -113,7 +113,7 @@ impl<T: Drop> Channel<T> {
         ensures stands { IsStepSeatOf self.now seat.new }
         ensures call { MatchResult result (λ _. BeginsAfterLook self.now.queue.size (Sending item) seat.old seat.new)
             (λ fault. RefusesBeginTrySend self.now.queue.size item seat.old seat.new fault × IsBetweenCalls seat.new) }
-        ensures room { IfOk result (λ _. upper_count seat.new.queue.seat.seen <ℤ pos self.now.queue.size) }
+        ensures room { IfOk result (λ _. upper_count seat.new.queue.seat.seen <ℤ self.now.size) }
     {
         if seat.queue.left() == 0 {
             return Err(SendFault::Worn { item });
@@ -125,7 +125,9 @@ impl<T: Drop> Channel<T> {
         if in_use.count >= self.size {
             return Err(SendFault::Full { item });
         }
-        self.begin_sending(seat, true, item)
+        seat.standing.tries = true;
+        seat.standing.set_next(Next::Claiming(Wish::Send(item)));
+        Ok(())
     }
 
     /// Looks whether there is an item. If there is, begins a try to receive one. A try never sleeps: as soon as a step returns
@@ -153,6 +155,8 @@ impl<T: Drop> Channel<T> {
                 ReceiveFault::Empty
             });
         }
-        self.begin_receiving(seat, true)
+        seat.standing.tries = true;
+        seat.standing.set_next(Next::Claiming(Wish::Receive));
+        Ok(())
     }
 }

@@ -3,6 +3,7 @@
 ghost use Rattle.std.specs.Prelude.{◌≡◌, ◌↔◌, IsTrue, pos, ◌≤ℤ◌};
 ghost use Rattle.fak_model.specs.Queue.{Has, lower_count, upper_count};
 ghost use Rattle.fak_model.specs.declared.queue.Kind.TheVariants.{Close};
+ghost use Rattle.fak_queue.specs.Queues.{drawn_by};
 ghost use Rattle.fak_channel.specs.Channels.{IsLength, OnlyLooks};
 ghost use Rattle.fak_channel.specs.Standings.{IsStepSeatOf};
 
@@ -16,6 +17,7 @@ impl<T: Drop> Channel<T> {
         requires { IsStepSeatOf self.now seat.old }
         ensures stands { IsStepSeatOf self.now seat.new }
         ensures looks { OnlyLooks self.now.queue.size seat.old seat.new }
+        ensures left { drawn_by seat.new.queue.seat ≡ drawn_by seat.old.queue.seat }
         ensures count { result.count ≡ upper_count seat.new.queue.seat.seen }
         ensures shut { IsTrue result.is_shut ↔ Has Close seat.new.queue.seat.seen }
     {
@@ -27,6 +29,7 @@ impl<T: Drop> Channel<T> {
         requires { IsStepSeatOf self.now seat.old }
         ensures stands { IsStepSeatOf self.now seat.new }
         ensures looks { OnlyLooks self.now.queue.size seat.old seat.new }
+        ensures left { drawn_by seat.new.queue.seat ≡ drawn_by seat.old.queue.seat }
         ensures count { result ≡ lower_count seat.new.queue.seat.seen }
     {
         seat.queue.items_ready(&self.queue)
