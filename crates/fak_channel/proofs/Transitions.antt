@@ -235,7 +235,7 @@ module _ {T : Type 0} (c : Channel T) (old new : ChannelSeat T) (S : IsStepSeatO
           by : Makes c.queue.size (made.NoRoom ∷ []) old.queue.seat new.queue.seat ⊎ Makes c.queue.size (made.OverIn ∷ made.BackIn ∷ []) old.queue.seat new.queue.seat → IsStepSeatOf c new
           by (inl m) =
               room_refused (made.NoRoom ∷ []) (refused_next s (Send x)) was m stands (one_at_most g.sender.looks no_sender) refl refl
-              (refused_stands (Send x) (after_kinds n (reverse (made.NoRoom ∷ [])) g) (may_again old.queue new.queue (made.NoRoom ∷ []) was m) (record { sender = sender_tried; receiver = receiver_up }))
+              (refused_stands (Send x) (after_kinds {T = T} n (reverse (made.NoRoom ∷ [])) g) (may_again old.queue new.queue (made.NoRoom ∷ []) was m) (record { sender = sender_tried; receiver = receiver_up }))
           by (inr m) =
               room_refused withdrawn (refused_next s (Send x)) was m stands (few_owed g.sender.looks no_sender) refl refl
               (refused_stands (Send x) (after_kinds {T = T} n (reverse withdrawn) g) (may_again old.queue new.queue withdrawn was m) (record { sender = sender_tried; receiver = receiver_up }))

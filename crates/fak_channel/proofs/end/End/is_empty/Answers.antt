@@ -9,5 +9,6 @@ pub look_down-requires : goal.look_down-requires
 look_down-requires g c = ∥∥₁_elim c.args.self.now.of_channel (stands_prop c.args.self.now.channel.now c.args.self.now.seat) (λ h. h.stands)
 
 pub invariant_of-self : goal.invariant_of-self
-invariant_of-self g c =
-    ∥∥₁_map c.args.self.now.of_channel (λ h. record { stands = c.look_down.ensures.stands; idle = ap (λ (t : CallStanding g.row.T.Denot). call_state t.next) c.look_down.ensures.looks.same_call ∙ h.idle })
+invariant_of-self g c = record {
+  of_channel = ∥∥₁_map c.args.self.now.of_channel (λ h. record { stands = c.look_down.ensures.stands; idle = ap (λ (t : CallStanding g.row.T.Denot). call_state t.next) c.look_down.ensures.looks.same_call ∙ h.idle });
+}
