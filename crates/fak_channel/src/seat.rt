@@ -2,7 +2,7 @@
 
 ghost use Rattle.std.specs.Prelude.{◌≡◌, ◌+◌};
 ghost use Rattle.fak_queue.specs.Queues.{drawn_by};
-ghost use Rattle.fak_channel.specs.Standings.{IsSeatOf, call_state};
+ghost use Rattle.fak_channel.specs.Standings.{IsBetweenCalls, IsSeatOf, IsStepSeatOf, call_state};
 
 use crate::channel::Channel;
 use crate::standing::{CallStanding, ChannelState};
@@ -24,16 +24,18 @@ impl<T: Drop> Channel<T> {
     /// A seat whose calls go by steps from now on: the same seat. It must belong to this channel and be between two calls.
     pub fn step_seat(&self, seat: ChannelSeat<T>) -> ChannelSeat<T>
         requires { IsSeatOf self.now seat }
-        ensures same { result ≡ seat }
-        ensures of { IsSeatOf self.now result }
+        ensures seat { result ≡ seat }
+        ensures idle { IsBetweenCalls result }
+        ensures stands { IsStepSeatOf self.now result }
     {
         seat
     }
 
     /// The seat as it was before `step_seat`: the same seat. It must belong to this channel and be between two calls.
     pub fn into_seat(&self, seat: ChannelSeat<T>) -> ChannelSeat<T>
-        requires { IsSeatOf self.now seat }
-        ensures same { result ≡ seat }
+        requires stands { IsStepSeatOf self.now seat }
+        requires idle { IsBetweenCalls seat }
+        ensures seat { result ≡ seat }
         ensures of { IsSeatOf self.now result }
     {
         seat

@@ -36,7 +36,7 @@ loop-i-preserved c =
             held = c.put.ensures ∙ ap (λ d. Some d) c.in-Ok-new-2.ensures.ok;
             fresh = subst F (sym c.in-Ok-new.ensures.ok) (
               c.of-end.ensures.object ∙ c.in-Ok.ensures,
-              c.of-end.ensures.seat ∙ (c.step_seat.ensures.same ∙ deals.1),
+              c.of-end.ensures.seat ∙ (c.step_seat.ensures.seat ∙ deals.1),
             );
           }),
       subst (λ n. AreUndealt channel c.args.stint (c.loop-i.i + 1) n c.next.new.self) left deals.2,
