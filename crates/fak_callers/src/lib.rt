@@ -11,6 +11,7 @@ pub mod blocks;
 pub mod bundles;
 pub mod bursts;
 pub mod cells;
+pub mod channel_ends;
 pub mod channels;
 pub mod credits;
 pub mod entries;

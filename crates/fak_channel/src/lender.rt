@@ -1,10 +1,9 @@
 //! A lender of ends, for threads that have none.
 
-ghost use Rattle.std.specs.Prelude.{◌≡◌, MatchResult};
+ghost use Rattle.std.specs.Prelude.{◌≡◌, IfOk, IsOk, MatchResult};
 ghost use Rattle.fak_channel.specs.declared.shelf.Shelf.{out-Shelf};
-ghost use Rattle.fak_channel.specs.Lending.{BusyOrRefusesReceive, BusyOrRefusesSend, SomeEndCloses, SomeEndIsSpent};
+ghost use Rattle.fak_channel.specs.Lending.{BusyOrRefusesReceive, BusyOrRefusesSend, SomeEndCloses};
 ghost use Rattle.fak_channel.specs.Lending.{SomeEndReceives, SomeEndRefusesReceive, SomeEndRefusesSend, SomeEndSends};
-ghost use Rattle.fak_channel.specs.Lending.{SomeEndSendsAfterLook};
 
 use crate::end::End;
 use crate::fault::{ChannelWorn, ReceiveFault, SendFault};
@@ -110,7 +109,7 @@ impl<'c, T: Drop> Lender<'c, T> {
     ///
     /// `Busy`, if all ends are lent; otherwise `Refused` with the fault of `End::try_send`. The item comes back.
     pub fn try_send<R: Wait>(&self, rt: &R, item: T) -> Result<(), LenderSendFault<T>>
-        ensures { MatchResult result (λ _. SomeEndSendsAfterLook item) (BusyOrRefusesSend item) }
+        ensures { MatchResult result (λ _. SomeEndSends item) (BusyOrRefusesSend item) }
     {
         let Some(mut loan) = self.try_lend(rt) else {
             return Err(LenderSendFault::Busy { item });
@@ -162,7 +161,8 @@ impl<'c, T: Drop> Lender<'c, T> {
     ///
     /// As `End::close`.
     pub fn close<R: Wait>(&self, rt: &R) -> Result<bool, ChannelWorn>
-        ensures { MatchResult result (SomeEndCloses T) (λ _. SomeEndIsSpent T) }
+        ensures call { IfOk result (SomeEndCloses T) }
+        ensures never_fails { IsOk result }
     {
         let mut loan = self.lend(rt);
         let closed = loan.end().close(rt);

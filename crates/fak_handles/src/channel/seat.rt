@@ -2,7 +2,7 @@
 
 ghost use Rattle.std.specs.Prelude.{◌≡◌};
 ghost use Rattle.std.specs.Arc.{arc_value};
-ghost use Rattle.fak_channel.specs.ChannelSteps.{IsStepSeatOf};
+ghost use Rattle.fak_channel.specs.Standings.{IsStepSeatOf};
 ghost use Rattle.fak_channel.proofs.OneProof.{stands_prop};
 
 use crate::desk::Desk;
