@@ -2,7 +2,7 @@
 
 ghost use Rattle.std.specs.Prelude.{IfOk};
 ghost use Rattle.std.specs.List.{All};
-ghost use Rattle.fak_channel.specs.Channels.{IsSeatOf};
+ghost use Rattle.fak_channel.specs.Standings.{IsSeatOf};
 
 use crate::channel_handle::{KitEnd, LockedChannel, LockedEnd};
 use crate::fault::Fault;

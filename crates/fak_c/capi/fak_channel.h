@@ -110,9 +110,8 @@ typedef struct fak_channel_end {
 } fak_channel_end;
 
 /* Opens a channel of `size` cells (1 to 2^24), and gives each of the n ends (1 to 1,024) a seat of it. The ends are empty before. Threads
- * sleep on futexes of Linux. An end may make about `stint` calls (at least 1, and n times the stint is at most 2^50). A tried or a timed
- * call that is refused may count too, and so may a call that finds a caller that gave up. If this uses up the stint, a free cell or an item
- * stays with the end that gave up, whose next call has it. FAK_C_MOST_CALLS / n is the longest stint.
+ * sleep on futexes of Linux. An end may send and receive `stint` items (at least 1, and n times the stint is at most 2^50). A refused
+ * call, one that gives up, and a close do not count. FAK_C_MOST_CALLS / n is the longest stint.
  *
  * FAK_C_OK; FAK_C_BAD_LIMIT or FAK_C_MEMORY, and the ends are empty; FAK_C_WRONG_STATE if an end has a seat. */
 int32_t fak_channel_open_ends(fak_channel_end *ends, size_t n, uint64_t size, uint64_t stint);
@@ -152,7 +151,7 @@ uint64_t fak_channel_deadline(uint64_t nanoseconds);
 /* Closes the channel, and never sleeps. Sends are refused as FAK_C_CLOSED from now on. Receivers get what is left, and then FAK_C_CLOSED.
  * All that sleep wake up.
  *
- * FAK_C_OK; FAK_C_CLOSED if it was closed before; FAK_C_WORN; FAK_C_NO_SEAT or FAK_C_WRONG_STATE. */
+ * FAK_C_OK; FAK_C_CLOSED if it was closed before; FAK_C_NO_SEAT or FAK_C_WRONG_STATE. */
 int32_t fak_channel_close(fak_channel_end *end);
 
 /* Gives up the end, which is empty then. The last seat to leave frees the channel, with the items that are still in it. If items own
@@ -273,8 +272,8 @@ int32_t fak_channel_open(fak_c_seat *ends, size_t n, uint64_t size, uint64_t sti
  * taken. The two tries look first, and may be refused then. A tried call goes on like any other, except that its caller gives up instead
  * of sleeping.
  *
- * FAK_C_OK; FAK_C_WORN; FAK_C_NO_SEAT or FAK_C_WRONG_STATE; of a tried send also FAK_C_CLOSED or FAK_C_FULL, of a tried receive also
- * FAK_C_CLOSED (closed and drained) or FAK_C_EMPTY. */
+ * FAK_C_OK; FAK_C_NO_SEAT or FAK_C_WRONG_STATE; of a send and a receive also FAK_C_WORN; of a tried send also FAK_C_CLOSED or FAK_C_FULL,
+ * of a tried receive also FAK_C_CLOSED (closed and drained) or FAK_C_EMPTY. */
 int32_t fak_channel_begin_send(fak_c_seat *end, const fak_channel_item *item);
 int32_t fak_channel_begin_receive(fak_c_seat *end);
 int32_t fak_channel_begin_try_send(fak_c_seat *end, const fak_channel_item *item);
@@ -290,7 +289,6 @@ int32_t fak_channel_begin_close(fak_c_seat *end);
  * - FAK_C_SLEEPS: sleep until this end is woken, and step again. A step that finds no wake-up returns this code again.
  * - FAK_C_OK: the item was sent; or was received, and is written to `item`; or the channel was open, and is closed now.
  * - FAK_C_CLOSED: the channel is closed. A send's item is written to `item`. To a receive nothing is left. A close found it closed.
- * - FAK_C_WORN: the stint of a receive ran out before it found an item.
  * - FAK_C_NO_SEAT; or FAK_C_WRONG_STATE if no call is open.
  *
  * Nothing else is written. A wake-up may be stale, if its end's call is over; that does no harm. */
@@ -308,8 +306,7 @@ int32_t fak_channel_give_up(fak_c_seat *end, fak_channel_item *item);
 int32_t fak_channel_len(fak_c_seat *end, uint64_t *items);
 int32_t fak_channel_is_closed(fak_c_seat *end, bool *is_closed);
 
-/* Writes the end's number, its state, and how many calls are left of its stint, if none gives up and none finds a caller that gave up.
- * Changes nothing.
+/* Writes the end's number, its state, and how many items are left of its stint. Changes nothing.
  *
  * FAK_C_OK or FAK_C_NO_SEAT. */
 int32_t fak_channel_state(fak_c_seat *end, uint64_t *number, uint32_t *state, uint64_t *left);

@@ -11,7 +11,7 @@ pub mod blocks;
 pub mod bundles;
 pub mod bursts;
 pub mod cells;
-pub mod channels;
+pub mod channel_ends;
 pub mod credits;
 pub mod entries;
 pub mod files;
@@ -27,6 +27,7 @@ pub mod runs;
 pub mod schedules;
 pub mod scripts;
 pub mod semaphores;
+pub mod sleeper_seats;
 pub mod sleepers;
 #[cfg(test)]
 mod tests;

@@ -1,12 +1,13 @@
 -- From what an end's call did to what callers of a lender know of it.
-use Rattle.std.specs.Prelude.{◌≡◌, Bool, Result, Ok, Err, MatchResult}
+use Rattle.std.specs.Prelude.{◌≡◌, Bool, Option, Some, None, Result, Ok, Err, IfOk, MatchResult}
+use Rattle.std.proofs.Common.{refl, sym, ◌∙◌}
 use Rattle.fak_channel.specs.declared.channel.Channel.{Channel}
 use Rattle.fak_channel.specs.declared.fault.ReceiveFault.{ReceiveFault}
 use Rattle.fak_channel.specs.declared.fault.SendFault.{SendFault}
 use Rattle.fak_channel.specs.declared.fault.ChannelWorn.{ChannelWorn}
 use Rattle.fak_channel.specs.declared.seat.ChannelSeat.{ChannelSeat}
-use Rattle.fak_channel.specs.Channels.{ClosesAs, IsSpent, Receives, RefusesReceive, RefusesSend, RefusesTryReceive, RefusesTrySend, Sends, SendsAfterLook}
-use Rattle.fak_channel.specs.Lending.{Call, SomeEndCloses, SomeEndIsSpent, SomeEndReceives, SomeEndRefusesReceive, SomeEndRefusesSend, SomeEndRefusesTryReceive, SomeEndRefusesTrySend, SomeEndSends, SomeEndSendsAfterLook}
+use Rattle.fak_channel.specs.Channels.{ClosesAs, Receives, RefusesReceive, RefusesSend, RefusesTryReceive, RefusesTrySend, Sends}
+use Rattle.fak_channel.specs.Lending.{Call, SomeEndCloses, SomeEndReceives, SomeEndRefusesReceive, SomeEndRefusesSend, SomeEndRefusesTryReceive, SomeEndRefusesTrySend, SomeEndSends}
 
 -- weaker facts about both outcomes
 outcomes : {A E : Type 0} (r : Result A E) {P P' : A → Type 0} {Q Q' : E → Type 0} → ((a : A) → P a → P' a) → ((e : E) → Q e → Q' e) → MatchResult r P Q → MatchResult r P' Q'
@@ -21,8 +22,8 @@ module _ {T : Type 0} (channel : Channel T) (old new : ChannelSeat T) where
   pub sent : (x : T) (r : Result (Unit {0}) (SendFault T)) → MatchResult r (λ _. Sends channel.queue.size x old new) (RefusesSend channel.queue.size x old new) → MatchResult r (λ _. SomeEndSends x) (SomeEndRefusesSend x)
   sent x r = outcomes r (λ _ does. (by_end, does)) (λ _ does. (by_end, does))
 
-  pub sent_after_look : (x : T) → SendsAfterLook channel.queue.size x old new → SomeEndSendsAfterLook x
-  sent_after_look x does = (by_end, does)
+  pub sent_one : (x : T) → Sends channel.queue.size x old new → SomeEndSends x
+  sent_one x does = (by_end, does)
 
   pub refused_try_send : (x : T) (fault : SendFault T) → RefusesTrySend channel.queue.size x old new fault → SomeEndRefusesTrySend x fault
   refused_try_send x fault does = (by_end, does)
@@ -36,5 +37,11 @@ module _ {T : Type 0} (channel : Channel T) (old new : ChannelSeat T) where
   pub refused_try_receive : (fault : ReceiveFault) → RefusesTryReceive channel.queue.size old new fault → SomeEndRefusesTryReceive T fault
   refused_try_receive fault does = (by_end, does)
 
-  pub closed : (r : Result Bool ChannelWorn) → MatchResult r (λ was_open. ClosesAs channel.queue.size was_open old new) (λ _. IsSpent old × (new ≡ old)) → MatchResult r (SomeEndCloses T) (λ _. SomeEndIsSpent T)
-  closed r = outcomes r (λ _ does. (by_end, does)) (λ _ does. (by_end, does.0, does.1))
+  pub closed_by : (r : Result Bool ChannelWorn) → IfOk r (λ was_open. ClosesAs channel.queue.size was_open old new) → IfOk r (SomeEndCloses T)
+  closed_by (Ok was_open) does = (by_end, does)
+  closed_by (Err e) does = tt
+
+-- what holds if there is an end still holds if one was taken off, since none is left of none
+pub still : {A W : Type 0} (old now : Option A) → (old ≡ None → now ≡ None) → ((x : A) → old ≡ Some x → W) → (x : A) → now ≡ Some x → W
+still None now none some x e = some x (sym (none refl) ∙ e)
+still (Some y) now none some x e = some y refl

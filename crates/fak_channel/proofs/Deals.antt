@@ -1,22 +1,15 @@
 -- Seats as an opening deals them.
-use Rattle.std.proofs.Common.{◌≡◌, ℕ, zero, suc, ◌+◌, ◌-◌, ◌<◌, List, [], ◌∷◌, ◌++◌, length, refl, ap, sym, ◌∙◌, arith}
-use Rattle.fak_model.specs.Calls.{ObjectId, SeatInfo, seat_info, fresh_seats}
-use Rattle.fak_sem.specs.Semaphores.{SemId, SemSeatInfo, fresh_sem_seats}
-use Rattle.fak_channel.specs.Permits.{dealt}
-
-abbrev pub fresh_sem_seat : SemId → ℕ → ℕ → SemSeatInfo ℕ
-fresh_sem_seat object stint name = record { object = object; name = name; stint = stint; credit_seen = []; queue_seen = [] }
-
-pub sem_dealt : (object : SemId) (stint name n : ℕ) → fresh_sem_seats {T = ℕ} object stint name n ≡ dealt (fresh_sem_seat object stint) name n
-sem_dealt object stint name zero = refl
-sem_dealt object stint name (suc n) = ap (λ l. fresh_sem_seat object stint name ∷ l) (sem_dealt object stint (suc name) n)
-
-abbrev pub fresh_seat : {M : Type 0} → ObjectId → ℕ → ℕ → SeatInfo M
-fresh_seat object stint name = seat_info object name stint []
-
-pub seats_dealt : {M : Type 0} (object : ObjectId) (stint name n : ℕ) → fresh_seats {M = M} object stint name n ≡ dealt (fresh_seat object stint) name n
-seats_dealt object stint name zero = refl
-seats_dealt object stint name (suc n) = ap (λ l. fresh_seat object stint name ∷ l) (seats_dealt object stint (suc name) n)
+use Rattle.std.proofs.Common.{◌≡◌, ℕ, zero, suc, ◌+◌, ◌-◌, ◌*◌, ◌<◌, ◌≤◌, List, [], ◌∷◌, ◌++◌, length, true, false, refl, ap, sym, ◌∙◌, subst, arith, pos}
+use Rattle.std.specs.List.{All}
+use Rattle.std.proofs.lemmas.List.Elements.{All-nil, All-cons}
+use Rattle.fak_model.specs.Limits.{large_seats}
+use Rattle.fak_channel_core.specs.SleeperSides.{Duty}
+use Rattle.fak_queue.specs.SleeperSeats.{SleeperInfo, fresh_sleeper}
+use Rattle.fak_channel.specs.declared.channel.Channel.{Channel}
+use Rattle.fak_channel.specs.declared.seat.ChannelSeat.{ChannelSeat}
+use Rattle.fak_channel.specs.Looks.{Covers, fresh_looks, words_of}
+use Rattle.fak_channel.specs.Standings.{IsSeatOf, IsStepSeatOf}
+use Rattle.fak_channel.specs.Undealt.{dealt, fresh_channel_seat, fresh_channel_seats, IsFreshChannel}
 
 pub length-dealt : {A : Type 0} (f : ℕ → A) (name n : ℕ) → length (dealt f name n) ≡ n
 length-dealt f name zero = refl
@@ -62,3 +55,39 @@ first_dealt {A} f name (suc n) {items} {rest} {x} are is =
       first = cc;
       others = (let r : rest ≡ dealt f (suc name) n = cc in r ∙ (ap (λ k. dealt f k n) up ∙ ap (dealt f (name + 1)) down));
     }
+
+-- ---- the seats belong to the channel
+
+some_words : (n : ℕ) → 0 < n → 0 < 64 * words_of n
+some_words n some = omega (arith, some)
+
+module _ {T : Type 0} (c : Channel T) (F : IsFreshChannel c) (stint : ℕ) where
+  fresh_covers : (d : Duty) → d.looks ≡ 0 → Covers c.ends fresh_looks d
+  fresh_covers d none = record {
+    few = omega (arith, none);
+    owed = λ e. none;
+    from = some_words c.ends F.some;
+    left = omega arith;
+    found = tt;
+    passed = λ owed. absurd (let f : false ≡ true = owed in cc);
+  }
+
+  pub fresh_is_of : (name : ℕ) → IsSeatOf c (fresh_channel_seat c stint name)
+  fresh_is_of name = record {
+    stands = record {
+      object = refl;
+      ends = F.ends;
+      cells = F.cells;
+      few = F.few;
+      pays = record { senders = fresh_covers _ refl; receivers = fresh_covers _ refl };
+      next = record { queue = refl; none = record { senders = refl; receivers = refl; checks = refl }; checks = λ e. refl; stages = record { sender = refl; receiver = refl } };
+    };
+    idle = refl;
+  }
+
+  fresh_are_of : (name n : ℕ) → All (λ (s : ChannelSeat T). IsSeatOf c s) (fresh_channel_seats c stint name n)
+  fresh_are_of name zero = All-nil (λ (s : ChannelSeat T). IsSeatOf c s)
+  fresh_are_of name (suc n) = All-cons (λ (s : ChannelSeat T). IsSeatOf c s) (fresh_channel_seat c stint name) (fresh_channel_seats c stint (suc name) n) (fresh_is_of name) (fresh_are_of (suc name) n)
+
+  pub dealt_are_of : (n : ℕ) (seats : List (ChannelSeat T)) → seats ≡ fresh_channel_seats c stint 0 n → All (λ (s : ChannelSeat T). IsSeatOf c s) seats
+  dealt_are_of n seats is = subst (All (λ (s : ChannelSeat T). IsSeatOf c s)) (sym is) (fresh_are_of 0 n)

@@ -1,5 +1,5 @@
 -- What calls by a borrowed end do. It is not known which end it is and what it has seen: some end performed the call.
-use Rattle.std.specs.Prelude.{◌≡◌, Bool}
+use Rattle.std.specs.Prelude.{◌≡◌, ◌≢◌, Bool, Option, Some, None}
 use Rattle.fak_channel.specs.declared.channel.Channel.{Channel}
 use Rattle.fak_channel.specs.declared.seat.ChannelSeat.{ChannelSeat}
 use Rattle.fak_channel.specs.declared.fault.SendFault.{SendFault}
@@ -8,7 +8,7 @@ use Rattle.fak_channel.specs.declared.lender_fault.LenderSendFault.{LenderSendFa
 use Rattle.fak_channel.specs.declared.lender_fault.LenderSendFault.TheVariants as sending
 use Rattle.fak_channel.specs.declared.lender_fault.LenderReceiveFault.{LenderReceiveFault}
 use Rattle.fak_channel.specs.declared.lender_fault.LenderReceiveFault.TheVariants as receiving
-use Rattle.fak_channel.specs.Channels.{Sends, SendsAfterLook, RefusesSend, RefusesTrySend, Receives, RefusesReceive, RefusesTryReceive, ClosesAs, IsSpent}
+use Rattle.fak_channel.specs.Channels.{Sends, RefusesSend, RefusesTrySend, Receives, RefusesReceive, RefusesTryReceive, ClosesAs}
 
 -- a seat before and after a call of an end of some channel
 pub record Call (T : Type 0) : Type 0 where
@@ -21,9 +21,6 @@ SomeEndSends {T} x = (c : Call T) × Sends c.channel.queue.size x c.old c.new
 
 abbrev pub SomeEndRefusesSend : {T : Type 0} → T → SendFault T → Type 0
 SomeEndRefusesSend {T} x fault = (c : Call T) × RefusesSend c.channel.queue.size x c.old c.new fault
-
-abbrev pub SomeEndSendsAfterLook : {T : Type 0} → T → Type 0
-SomeEndSendsAfterLook {T} x = (c : Call T) × SendsAfterLook c.channel.queue.size x c.old c.new
 
 abbrev pub SomeEndRefusesTrySend : {T : Type 0} → T → SendFault T → Type 0
 SomeEndRefusesTrySend {T} x fault = (c : Call T) × RefusesTrySend c.channel.queue.size x c.old c.new fault
@@ -50,5 +47,7 @@ BusyOrRefusesReceive T (receiving.Refused fault) = SomeEndRefusesTryReceive T fa
 abbrev pub SomeEndCloses : (T : Type 0) → Bool → Type 0
 SomeEndCloses T was_open = (c : Call T) × ClosesAs c.channel.queue.size was_open c.old c.new
 
-abbrev pub SomeEndIsSpent : (T : Type 0) → Type 0
-SomeEndIsSpent T = (c : Call T) × IsSpent c.old × (c.new ≡ c.old)
+-- an end was taken off these shelves, if there was one
+abbrev pub IsTaken : {A : Type 0} → Option A → Option A → Type 0
+IsTaken None taken = taken ≡ None
+IsTaken (Some shelf) taken = taken ≢ None

@@ -1,8 +1,10 @@
-pub mod Permits
+pub mod Looks
+pub mod Standings
+pub mod Marks
+pub mod Moves
 pub mod Channels
-pub mod Parts
-pub mod StepPermits
 pub mod ChannelSteps
-pub mod Lending
-pub mod Faults
 pub mod Undealt
+pub mod Faults
+pub mod Lending
+pub mod EndsAtRest

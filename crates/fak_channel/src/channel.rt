@@ -1,20 +1,20 @@
 //! A channel that its ends share.
 
-use crate::permits::Permits;
+use crate::parker::Parker;
 use fak_queue::Queue;
 use std::fmt;
 
-/// A bounded first-in-first-out channel. Threads sleep while it is full or empty. Its items are in a queue. Contracts
-/// see the queue, and which semaphores count the items and the free cells.
+/// A bounded first-in-first-out channel. Threads sleep while it is full or empty. Its items are in a queue, whose table also has
+/// a bit for each end that sleeps. Contracts see the queue, and how many ends there are.
 #[derive(Drop)]
 pub struct Channel<T> {
     pub(crate) queue: Queue<T>,
-    /// A permit for each item that no receiver has claimed.
-    pub(crate) items: Permits,
-    /// A permit for each cell that no sender has claimed.
-    pub(crate) cells: Permits,
+    /// The word of each end, on which its thread sleeps.
+    pub(crate) parkers: Vec<Parker>,
     /// The number of cells.
     pub(crate) size: i64,
+    /// The number of ends.
+    pub(crate) ends: u64,
 }
 
 impl<T> fmt::Debug for Channel<T> {

@@ -1,7 +1,7 @@
 //! How a channel's seats become ends.
 
 ghost use Rattle.std.specs.Prelude.{◌≡◌, All, IfOk, map};
-ghost use Rattle.fak_channel.specs.Channels.{IsSeatOf};
+ghost use Rattle.fak_channel.specs.Standings.{IsSeatOf};
 
 use crate::channel::Channel;
 use crate::end::End;

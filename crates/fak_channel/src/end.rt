@@ -1,12 +1,12 @@
 //! A channel and one of its seats as one value, whose calls have no preconditions.
 
-ghost use Rattle.std.specs.Prelude.{◌≡◌, ◌↔◌, ◌⊎◌, [], ℤ, pos, ◌≤ℤ◌, IsTrue, MatchResult};
+ghost use Rattle.std.specs.Prelude.{◌≡◌, ◌↔◌, pos, ◌≤ℤ◌, IfOk, IsOk, IsTrue, MatchResult};
 ghost use Rattle.fak_model.specs.Queue.{Has, lower_count};
 ghost use Rattle.fak_model.specs.declared.queue.Kind.TheVariants.{Close};
-ghost use Rattle.fak_queue.specs.Queues.{Makes};
-ghost use Rattle.fak_channel.specs.Channels.{ClosesAs, IsLength, IsSeatOf, IsSpent, OnlyLooks, Receives, RefusesReceive};
+ghost use Rattle.fak_channel.specs.Channels.{ClosesAs, IsLength, OnlyLooks, Receives, RefusesReceive};
 ghost use Rattle.fak_channel.specs.Channels.{RefusesReceiveUntil, RefusesSend, RefusesSendUntil, RefusesTryReceive};
-ghost use Rattle.fak_channel.specs.Channels.{RefusesTrySend, Sends, SendsAfterLook};
+ghost use Rattle.fak_channel.specs.Channels.{RefusesTrySend, Sends};
+ghost use Rattle.fak_channel.specs.Standings.{IsSeatOf};
 
 use crate::channel::Channel;
 use crate::fault::{ChannelWorn, ReceiveFault, SendFault};
@@ -24,7 +24,7 @@ pub struct End<'c, T> {
     pub channel: &'c Channel<T>,
     /// The seat, which belongs to this channel, and of which no call is open.
     pub seat: ChannelSeat<T>,
-    pub ghost of_channel: { IsSeatOf channel.now seat },
+    pub ghost of_channel: { ∥ IsSeatOf channel.now seat ∥₁ },
 }
 
 impl<'c, T: Drop> End<'c, T> {
@@ -77,7 +77,7 @@ impl<'c, T: Drop> End<'c, T> {
     /// `Worn`, `Closed` or `Full`, in this order; the item comes back.
     pub fn try_send<R: Wait>(&mut self, rt: &R, item: T) -> Result<(), SendFault<T>>
         ensures channel { self.new.channel ≡ self.old.channel }
-        ensures call { MatchResult result (λ _. SendsAfterLook self.old.channel.now.queue.size item self.old.seat self.new.seat)
+        ensures call { MatchResult result (λ _. Sends self.old.channel.now.queue.size item self.old.seat self.new.seat)
             (RefusesTrySend self.old.channel.now.queue.size item self.old.seat self.new.seat) }
     {
         self.channel.try_send(rt, &mut self.seat, item)
@@ -132,11 +132,11 @@ impl<'c, T: Drop> End<'c, T> {
     ///
     /// # Errors
     ///
-    /// `ChannelWorn`, if the stint is used up; the channel is as before.
+    /// None: a close needs no ticket.
     pub fn close<R: Wait>(&mut self, rt: &R) -> Result<bool, ChannelWorn>
         ensures channel { self.new.channel ≡ self.old.channel }
-        ensures call { MatchResult result (λ was_open. ClosesAs self.old.channel.now.queue.size was_open self.old.seat self.new.seat)
-            (λ _. IsSpent self.old.seat × (self.new.seat ≡ self.old.seat)) }
+        ensures call { IfOk result (λ was_open. ClosesAs self.old.channel.now.queue.size was_open self.old.seat self.new.seat) }
+        ensures never_fails { IsOk result }
     {
         self.channel.close(rt, &mut self.seat)
     }
@@ -147,25 +147,25 @@ impl<'c, T: Drop> End<'c, T> {
         ensures looks { OnlyLooks self.old.channel.now.queue.size self.old.seat self.new.seat }
         ensures count { IsLength result self.new.seat }
     {
-        self.channel.len(&mut self.seat)
+        self.channel.step_len(&mut self.seat)
     }
 
     /// Whether there is no such item, at one moment.
     pub fn is_empty(&mut self) -> bool
         ensures channel { self.new.channel ≡ self.old.channel }
         ensures looks { OnlyLooks self.old.channel.now.queue.size self.old.seat self.new.seat }
-        ensures empty { IsTrue result ↔ (lower_count self.new.seat.queue.seen ≤ℤ pos 0) }
+        ensures empty { IsTrue result ↔ (lower_count self.new.seat.queue.seat.seen ≤ℤ pos 0) }
     {
-        self.channel.is_empty(&mut self.seat)
+        self.channel.look_down(&mut self.seat) <= 0
     }
 
     /// Whether the channel is closed.
     pub fn is_closed(&mut self) -> bool
         ensures channel { self.new.channel ≡ self.old.channel }
         ensures looks { OnlyLooks self.old.channel.now.queue.size self.old.seat self.new.seat }
-        ensures closed { IsTrue result ↔ Has Close self.new.seat.queue.seen }
+        ensures closed { IsTrue result ↔ Has Close self.new.seat.queue.seat.seen }
     {
-        self.channel.is_closed(&mut self.seat)
+        self.channel.step_is_closed(&mut self.seat)
     }
 
     /// The seat, which `Channel::tally` or `Channel::join` takes.

@@ -5,7 +5,7 @@ ghost use Rattle.fak_model.specs.Calls.{IsJoined, tally_of};
 ghost use Rattle.fak_model.specs.Histories.{AreNamed, IsAtRest};
 ghost use Rattle.fak_model.specs.Queue.{IsQueueHistory, contents, queue_rules};
 ghost use Rattle.fak_model.specs.Seats.{IsWhole};
-ghost use Rattle.fak_channel.specs.Channels.{IsSeatOf};
+ghost use Rattle.fak_channel.specs.Standings.{IsSeatOf};
 
 use crate::channel::Channel;
 use crate::seat::ChannelSeat;
@@ -15,31 +15,23 @@ impl<T: Drop> Channel<T> {
     /// The tally of one seat, whose end performs no more calls.
     pub fn tally(&self, seat: ChannelSeat<T>) -> Tally<T>
         requires { IsSeatOf self.now seat }
-        ensures tally { result ≡ tally_of seat.queue }
+        ensures tally { result ≡ tally_of seat.queue.seat }
         ensures object { result.object ≡ self.now.queue.object }
         ensures lawful { IsQueueHistory self.now.queue.size result.seen }
     {
-        let ChannelSeat {
-            queue,
-            items: _,
-            cells: _,
-        } = seat;
-        Tally::of(queue)
+        let ChannelSeat { queue, standing: _ } = seat;
+        Tally::of_sleeper(queue)
     }
 
     /// The tally with this seat added.
     pub fn join(&self, tally: Tally<T>, seat: ChannelSeat<T>) -> Tally<T>
         requires tally { tally.object ≡ self.now.queue.object }
         requires seat { IsSeatOf self.now seat }
-        ensures joined { IsJoined (queue_rules self.now.queue.size) tally seat.queue result }
+        ensures joined { IsJoined (queue_rules self.now.queue.size) tally seat.queue.seat result }
         ensures object { result.object ≡ self.now.queue.object }
     {
-        let ChannelSeat {
-            queue,
-            items: _,
-            cells: _,
-        } = seat;
-        self.queue.join(tally, queue)
+        let ChannelSeat { queue, standing: _ } = seat;
+        self.queue.join_sleeper(tally, queue)
     }
 
     /// The items that nobody received, oldest first, once all seats are in the tally.
@@ -53,9 +45,9 @@ impl<T: Drop> Channel<T> {
     {
         let Channel {
             queue,
-            items: _,
-            cells: _,
+            parkers: _,
             size: _,
+            ends: _,
         } = self;
         queue.close(tally)
     }

@@ -1,16 +1,15 @@
 //! A lender of ends, for threads that have none.
 
-ghost use Rattle.std.specs.Prelude.{◌≡◌, MatchResult};
-ghost use Rattle.fak_channel.specs.declared.shelf.Shelf.{out-Shelf};
-ghost use Rattle.fak_channel.specs.Lending.{BusyOrRefusesReceive, BusyOrRefusesSend, SomeEndCloses, SomeEndIsSpent};
+ghost use Rattle.std.specs.Prelude.{◌≡◌, IfOk, IsOk, MatchResult};
+ghost use Rattle.fak_channel.specs.declared.shelves.Shelf.{out-Shelf};
+ghost use Rattle.fak_channel.specs.Lending.{BusyOrRefusesReceive, BusyOrRefusesSend, SomeEndCloses};
 ghost use Rattle.fak_channel.specs.Lending.{SomeEndReceives, SomeEndRefusesReceive, SomeEndRefusesSend, SomeEndSends};
-ghost use Rattle.fak_channel.specs.Lending.{SomeEndSendsAfterLook};
 
 use crate::end::End;
 use crate::fault::{ChannelWorn, ReceiveFault, SendFault};
 use crate::lender_fault::{LenderReceiveFault, LenderSendFault};
-use crate::shelf::Shelf;
-use crate::sleeper::time_left;
+use crate::parker::time_left;
+use crate::shelves::{Notice, Shelf, Shelves};
 use std::alloc::{AllocError, Global};
 use std::fmt;
 use std::sync::{Condvar, Mutex, Wait};
@@ -22,8 +21,8 @@ use std::time::{Clock, Instant};
 /// Otherwise sleeping receivers may have all ends, and no sender gets one.
 #[derive(Drop)]
 pub struct Lender<'c, T> {
-    idle: Mutex<Option<Box<Shelf<'c, T>>>>,
-    given_back: Condvar,
+    shelves: Mutex<Shelves<'c, T>>,
+    put_aside: Condvar,
 }
 
 /// A lent end. It cannot be dropped, only given back (`Lender::take_back`) or kept (`into_end`).
@@ -35,8 +34,8 @@ impl<'c, T: Drop> Lender<'c, T> {
     /// A lender that has no end yet.
     pub fn new() -> Lender<'c, T> {
         Lender {
-            idle: Mutex::new(None),
-            given_back: Condvar::new(),
+            shelves: Mutex::new(Shelves::new()),
+            put_aside: Condvar::new(),
         }
     }
 
@@ -53,12 +52,17 @@ impl<'c, T: Drop> Lender<'c, T> {
 
     /// Lends an end. The thread sleeps while all ends are lent.
     pub fn lend<R: Wait>(&self, rt: &R) -> Loan<'c, T> {
+        let mut shelves = self.shelves.lock(rt);
+        if let Some(shelf) = shelves.take_idle() {
+            return Loan { shelf };
+        }
+        shelves.begin_to_wait();
         for _ in rt.forever() {
-            let mut idle = self
-                .given_back
-                .wait_while(rt, self.idle.lock(rt), |idle| idle.is_none());
-            if let Some(loan) = take_off(&mut idle) {
-                return loan;
+            shelves = self
+                .put_aside
+                .wait_while(rt, shelves, |shelves| shelves.has_none_aside());
+            if let Some(shelf) = shelves.take_aside() {
+                return Loan { shelf };
             }
         }
         unreachable!()
@@ -66,28 +70,41 @@ impl<'c, T: Drop> Lender<'c, T> {
 
     /// Lends an end, unless all ends are lent. The thread does not sleep for an end.
     pub fn try_lend<R: Wait>(&self, rt: &R) -> Option<Loan<'c, T>> {
-        take_off(&mut self.idle.lock(rt))
+        let shelf = self.shelves.lock(rt).take_idle()?;
+        Some(Loan { shelf })
     }
 
     /// Lends an end. The thread sleeps while all ends are lent, until the deadline at most. A clock that cannot be read ends the
     /// wait.
     pub fn lend_deadline<R: Wait + Clock>(&self, rt: &R, deadline: Instant) -> Option<Loan<'c, T>> {
-        let idle = self.idle.lock(rt);
+        let mut shelves = self.shelves.lock(rt);
+        if let Some(shelf) = shelves.take_idle() {
+            return Some(Loan { shelf });
+        }
+        shelves.begin_to_wait();
         let left = time_left(rt, deadline);
-        let (mut idle, _) = self
-            .given_back
-            .wait_timeout_while(rt, idle, left, |idle| idle.is_none());
-        take_off(&mut idle)
+        let (mut shelves, _) = self
+            .put_aside
+            .wait_timeout_while(rt, shelves, left, |shelves| shelves.has_none_aside());
+        let shelf = shelves.stop_waiting()?;
+        Some(Loan { shelf })
     }
 
     /// Takes back an end that was lent, and wakes a borrower that waits for one.
     pub fn take_back<R: Wait>(&self, rt: &R, loan: Loan<'c, T>) {
-        let Loan { mut shelf } = loan;
-        let mut idle = self.idle.lock(rt);
-        shelf.below = idle.take();
-        *idle = Some(shelf);
-        drop(idle);
-        self.given_back.notify_one();
+        let Loan { shelf } = loan;
+        let mut shelves = self.shelves.lock(rt);
+        let notice = shelves.give(shelf);
+        drop(shelves);
+        if let Some(notice) = notice {
+            self.notify(notice);
+        }
+    }
+
+    /// Wakes a borrower for whom an end was put aside.
+    fn notify(&self, notice: Notice) {
+        let Notice {} = notice;
+        self.put_aside.notify_one();
     }
 
     /// Sends the item by a borrowed end.
@@ -110,7 +127,7 @@ impl<'c, T: Drop> Lender<'c, T> {
     ///
     /// `Busy`, if all ends are lent; otherwise `Refused` with the fault of `End::try_send`. The item comes back.
     pub fn try_send<R: Wait>(&self, rt: &R, item: T) -> Result<(), LenderSendFault<T>>
-        ensures { MatchResult result (λ _. SomeEndSendsAfterLook item) (BusyOrRefusesSend item) }
+        ensures { MatchResult result (λ _. SomeEndSends item) (BusyOrRefusesSend item) }
     {
         let Some(mut loan) = self.try_lend(rt) else {
             return Err(LenderSendFault::Busy { item });
@@ -162,7 +179,8 @@ impl<'c, T: Drop> Lender<'c, T> {
     ///
     /// As `End::close`.
     pub fn close<R: Wait>(&self, rt: &R) -> Result<bool, ChannelWorn>
-        ensures { MatchResult result (SomeEndCloses T) (λ _. SomeEndIsSpent T) }
+        ensures call { IfOk result (SomeEndCloses T) }
+        ensures never_fails { IsOk result }
     {
         let mut loan = self.lend(rt);
         let closed = loan.end().close(rt);
@@ -185,13 +203,6 @@ impl<'c, T: Drop> Loan<'c, T> {
         let Shelf { end, below: _ } = Box::into_inner(shelf);
         end
     }
-}
-
-/// Takes the top shelf off, if there is one.
-fn take_off<'c, T: Drop>(idle: &mut Option<Box<Shelf<'c, T>>>) -> Option<Loan<'c, T>> {
-    let mut shelf = idle.take()?;
-    *idle = shelf.below.take();
-    Some(Loan { shelf })
 }
 
 impl<'c, T> fmt::Debug for Lender<'c, T> {

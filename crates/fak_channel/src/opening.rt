@@ -1,25 +1,22 @@
 //! How a channel is opened.
 
-ghost use Rattle.std.specs.Prelude.{◌≡◌, All, IfOk, MatchResult};
-ghost use Rattle.fak_model.specs.Calls.{fresh_seats};
+ghost use Rattle.std.specs.Prelude.{◌≡◌, ◌≤◌, All, IfOk, MatchResult, pos, vec_len};
 ghost use Rattle.fak_model.specs.Limits.{IsInLargeRange, IsLargeFault};
 ghost use Rattle.fak_queue.specs.Refusals.{IsLargeSize};
-ghost use Rattle.fak_channel.specs.Channels.{IsSeatOf, fresh_channel_seats};
-ghost use Rattle.fak_channel.specs.Permits.{fresh_permits};
-ghost use Rattle.fak_channel.specs.Undealt.{AreUndealt};
+ghost use Rattle.fak_queue.specs.SleeperSeats.{fresh_sleeper, undealt_info};
+ghost use Rattle.fak_channel.specs.Standings.{IsSeatOf};
+ghost use Rattle.fak_channel.specs.Undealt.{AreUndealt, dealt, fresh_channel_seats};
 
 use crate::channel::Channel;
-use crate::permit_opening::open_permits;
-use crate::permit_seat::PermitSeat;
+use crate::parker::Parker;
 use crate::seat::ChannelSeat;
 use crate::undealt::UndealtSeats;
 use fak_model::LargeFault;
-use fak_queue::{Queue, Seat};
+use fak_queue::{Queue, SleeperSeat};
 use std::alloc::{AllocError, Global};
 
 impl<T: Drop> Channel<T> {
-    /// Opens an empty channel of `size` cells, with a seat for each of its ends. A seat performs `stint - 1` sends and
-    /// receives if no call gives up or is refused, and fewer otherwise.
+    /// Opens an empty channel of `size` cells, with a seat for each of its ends. A seat performs `stint` sends and receives.
     ///
     /// `size` is 1 to `LARGE_SIZE`, and `ends` 1 to `LARGE_SEATS`. `stint` is at least 1, and `ends` times `stint` at
     /// most `LARGE_TICKETS`.
@@ -34,8 +31,7 @@ impl<T: Drop> Channel<T> {
         stint: u64,
     ) -> Result<(Channel<T>, Vec<ChannelSeat<T>>), LargeFault>
         ensures { MatchResult result (λ r. IsInLargeRange (IsLargeSize size) ends stint × (r.0.queue.size ≡ size)
-            × (r.0.queue.object.seats ≡ ends) × (r.0.items.start ≡ 0) × (r.0.cells.start ≡ size)
-            × (r.1.items ≡ fresh_channel_seats r.0 stint 0 ends)
+            × (r.0.queue.object.seats ≡ ends) × (r.1.items ≡ fresh_channel_seats r.0 stint 0 ends)
             × All (λ s. IsSeatOf r.0 s) r.1.items) (IsLargeFault (IsLargeSize size) ends stint) }
     {
         let (channel, undealt) = match Channel::open_undealt(alloc, size, ends, stint) {
@@ -48,7 +44,7 @@ impl<T: Drop> Channel<T> {
         }
     }
 
-    /// As `open`, except that the seats are still to be dealt, so no list of them is allocated.
+    /// As `open`, except that the seats are still to be dealt.
     ///
     /// # Errors
     ///
@@ -60,48 +56,28 @@ impl<T: Drop> Channel<T> {
         stint: u64,
     ) -> Result<(Channel<T>, UndealtSeats<T>), LargeFault>
         ensures { MatchResult result (λ r. IsInLargeRange (IsLargeSize size) ends stint × (r.0.queue.size ≡ size)
-            × (r.0.queue.object.seats ≡ ends) × (r.0.items.start ≡ 0) × (r.0.cells.start ≡ size)
-            × AreUndealt r.0 stint 0 ends r.1) (IsLargeFault (IsLargeSize size) ends stint) }
+            × (r.0.queue.object.seats ≡ ends) × AreUndealt r.0 stint 0 ends r.1) (IsLargeFault (IsLargeSize size) ends stint) }
     {
-        let (queue, queue_seats) = match Queue::open_large(alloc, size, ends, stint) {
+        let (queue, rest) = match Queue::open_sleepers(alloc, size, ends, stint) {
             Ok(opened) => opened,
             Err(fault) => return Err(fault),
         };
-        let Ok((items, item_seats)) = open_permits(alloc, 0, ends, stint) else {
+        let Ok(parkers) = parkers(alloc, ends) else {
             return Err(LargeFault::Memory);
         };
-        let Ok((cells, cell_seats)) = open_permits(alloc, size, ends, stint) else {
+        let Ok(seats) = deal(alloc, &queue, ends, stint, rest) else {
             return Err(LargeFault::Memory);
         };
         let channel = Channel {
             queue,
-            items,
-            cells,
+            parkers,
             size: size as i64,
+            ends,
         };
-        let undealt = channel.undealt(ends, stint, queue_seats, item_seats, cell_seats);
+        let undealt = UndealtSeats {
+            queues: seats.into_iter(),
+        };
         Ok((channel, undealt))
-    }
-
-    /// The undealt seats that have these parts.
-    fn undealt(
-        &self,
-        _ends: u64,
-        _stint: u64,
-        queues: Vec<Seat<T>>,
-        items: Vec<PermitSeat>,
-        cells: Vec<PermitSeat>,
-    ) -> UndealtSeats<T>
-        requires queues { queues.items ≡ fresh_seats self.now.queue.object _stint 0 _ends }
-        requires items { items.items ≡ fresh_permits self.now.items _stint 0 _ends }
-        requires cells { cells.items ≡ fresh_permits self.now.cells _stint 0 _ends }
-        ensures { AreUndealt self.now _stint 0 _ends result }
-    {
-        UndealtSeats {
-            queues: queues.into_iter(),
-            items: items.into_iter(),
-            cells: cells.into_iter(),
-        }
     }
 
     /// The seats, in a list.
@@ -126,4 +102,37 @@ impl<T: Drop> Channel<T> {
         }
         Ok(seats)
     }
+}
+
+/// A word for each end, on which its thread sleeps.
+fn parkers(alloc: Global, ends: u64) -> Result<Vec<Parker>, AllocError> {
+    let mut parkers = Vec::with_capacity(alloc, ends as usize)?;
+    for _end in 0..ends {
+        parkers.push(Parker::new())?;
+    }
+    Ok(parkers)
+}
+
+/// The queue's seats, in a list.
+fn deal<T: Drop>(
+    alloc: Global,
+    queue: &Queue<T>,
+    ends: u64,
+    stint: u64,
+    undealt: fak_queue::UndealtSeats<T>,
+) -> Result<Vec<SleeperSeat<T>>, AllocError>
+    requires undealt { undealt ≡ undealt_info queue.now.object stint 0 }
+    requires ends { queue.now.object.seats ≡ ends }
+    ensures { IfOk result (λ r. r.items ≡ dealt (fresh_sleeper queue.now.object stint) 0 ends) }
+{
+    let _stint = stint;
+    let mut rest = undealt;
+    let mut seats = Vec::with_capacity(alloc, ends as usize)?;
+    for _name in 0..ends {
+        match rest.next(queue) {
+            Some(seat) => seats.push(seat)?,
+            None => unreachable!(),
+        }
+    }
+    Ok(seats)
 }

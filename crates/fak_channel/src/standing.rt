@@ -1,6 +1,8 @@
-//! The state of an end whose calls go by steps, and the results of these steps.
+//! How far the open call of a seat has come, and the results of its steps.
 
-/// What a call wants that seeks a permit.
+use std::mem;
+
+/// What a call wants that may wait.
 #[derive(Clone, Copy, Debug, PartialEq, Eq, Drop)]
 pub enum Wish<T> {
     /// To send this item.
@@ -20,7 +22,7 @@ pub enum Outcome<T> {
     Received(T),
     /// The channel was closed, and all its items were received.
     Drained,
-    /// The stint of a receiver was used up before it found an item.
+    /// The stint was used up in the middle of a call. No call ends so: a call that has begun has a ticket.
     Worn,
     /// The channel was open, and now it is closed.
     Closed,
@@ -35,7 +37,7 @@ pub enum ChannelStep<T> {
     GoesOn,
     /// The call waits for a step of another end's call that has begun.
     NotYet,
-    /// The call sleeps until another end wakes it.
+    /// The call sleeps until another end wakes it. A try would have to sleep, and is to be given up.
     Sleeps,
     /// The caller is to wake the thread of the end with this number now. Then the call goes on.
     Wakes(u64),
@@ -50,68 +52,120 @@ pub enum ChannelState {
     Idle,
     /// A call is open.
     Open,
-    /// A call is open and sleeps.
+    /// A call is open and sleeps, or it is a try that would have to sleep.
     Sleeping,
 }
 
-/// How far the open call of an end has come.
+/// A look for a sleeper on one side of the channel: whether the end owes one, and how far it has come. 64 ends share a word
+/// of bits.
+#[derive(Clone, Copy, Drop)]
+pub struct Looks {
+    /// Whether a look is owed.
+    pub(crate) is_owed: bool,
+    /// The end from which on the next load looks for a set bit. Between two looks it is the one behind the end that was woken
+    /// last, so that no sleeper is passed over again and again.
+    pub(crate) from: u64,
+    /// How many words are still to be loaded.
+    pub(crate) left: u64,
+    /// The end whose bit a load found set: it is to be cleared next.
+    pub(crate) found: Option<u64>,
+}
+
+/// What a call does next, once it owes nothing.
 #[derive(Drop)]
-pub enum CallStanding<T> {
+pub enum Next<T> {
     /// No call is open.
     Idle,
-    /// A permit is to be sought next.
-    Seeking(Wish<T>),
-    /// There was no permit: the sleeper is to be parked next.
-    Parking(Wish<T>),
-    /// The sleeper is parked: a look whether it was woken comes next.
-    Sleeping(Wish<T>),
-    /// There is a permit: the item, or room for it, is to be claimed in the queue next.
+    /// The item, or room for it, is to be claimed in the queue.
     Claiming(Wish<T>),
-    /// Room was claimed: the item is to be moved into its cell next.
+    /// Room was claimed: the item is to be moved into its cell.
     Inserting,
-    /// An item was claimed: it is to be moved out of its cell next.
+    /// An item was claimed: it is to be moved out of its cell.
     Deleting,
-    /// No item was found: a look whether the channel is drained comes next.
-    Looking,
-    /// The queue is to be shut next.
+    /// No item was found: a check whether the channel is drained.
+    Checking,
+    /// There was no room, or no item: the own bit is to be set.
+    Registering(Wish<T>),
+    /// The own bit is set: the second test.
+    Testing(Wish<T>),
+    /// The second test found no item: the rest of it, whether the channel is drained.
+    TestingDrained,
+    /// The second test found what the call waits for: the own bit is to be cleared.
+    TakingBack(Wish<T>),
+    /// The second test found nothing: a look at the own bit.
+    Sleeping(Wish<T>),
+    /// A try found no room, or no item.
+    Refusing(Wish<T>),
+    /// The same, and its caller has been told.
+    Refused(Wish<T>),
+    /// The queue is to be shut.
     Shutting,
-    /// The permit of a cell is to be released next.
-    ReleasingCell(Outcome<T>),
-    /// The permit of a cell was released: a sender is to be woken next.
-    WakingCell(Outcome<T>),
-    /// A look whether the channel is drained comes next; if it is, a receiver gets a permit.
-    Announcing(Outcome<T>),
-    /// The permit of an item is to be released next.
-    ReleasingItem(Outcome<T>),
-    /// The permit of an item was released: a receiver is to be woken next.
-    WakingItem(Outcome<T>),
-    /// All is done; the next step only returns how the call ended.
+    /// All is done; the last step only returns how the call ended.
     Ending(Outcome<T>),
+}
+
+/// How far a call has come: what the end owes to others, which it does first, and what comes next.
+#[derive(Drop)]
+pub struct CallStanding<T> {
+    /// The look for a sender that sleeps.
+    pub(crate) senders: Looks,
+    /// The look for a receiver that sleeps.
+    pub(crate) receivers: Looks,
+    /// Whether a check is owed whether the channel is drained.
+    pub(crate) checks: bool,
+    /// Whether the call is a try, which never sleeps.
+    pub(crate) tries: bool,
+    /// What comes next.
+    pub(crate) next: Next<T>,
 }
 
 impl<T> CallStanding<T> {
     ghost use Rattle.std.specs.Prelude.{◌≡◌};
-    ghost use Rattle.fak_channel.specs.ChannelSteps.{call_state};
+    ghost use Rattle.fak_channel.specs.Standings.{call_state, fresh_standing};
+
+    /// That of a seat that has begun no call.
+    pub(crate) fn new() -> CallStanding<T>
+        ensures { result ≡ fresh_standing }
+    {
+        CallStanding {
+            senders: Looks::new(),
+            receivers: Looks::new(),
+            checks: false,
+            tries: false,
+            next: Next::Idle,
+        }
+    }
 
     pub(crate) fn state(&self) -> ChannelState
-        ensures { result ≡ call_state self.now }
+        ensures { result ≡ call_state self.now.next }
     {
-        match self {
-            CallStanding::Idle => ChannelState::Idle,
-            CallStanding::Sleeping(_) => ChannelState::Sleeping,
-            CallStanding::Seeking(_)
-            | CallStanding::Parking(_)
-            | CallStanding::Claiming(_)
-            | CallStanding::Inserting
-            | CallStanding::Deleting
-            | CallStanding::Looking
-            | CallStanding::Shutting
-            | CallStanding::ReleasingCell(_)
-            | CallStanding::WakingCell(_)
-            | CallStanding::Announcing(_)
-            | CallStanding::ReleasingItem(_)
-            | CallStanding::WakingItem(_)
-            | CallStanding::Ending(_) => ChannelState::Open,
+        match self.next {
+            Next::Idle => ChannelState::Idle,
+            Next::Sleeping(_) | Next::Refused(_) => ChannelState::Sleeping,
+            Next::Claiming(_)
+            | Next::Inserting
+            | Next::Deleting
+            | Next::Checking
+            | Next::Registering(_)
+            | Next::Testing(_)
+            | Next::TestingDrained
+            | Next::TakingBack(_)
+            | Next::Refusing(_)
+            | Next::Shutting
+            | Next::Ending(_) => ChannelState::Open,
         }
+    }
+}
+
+impl<T: Drop> CallStanding<T> {
+    ghost use Rattle.std.specs.Prelude.{◌≡◌};
+    ghost use Rattle.fak_channel.specs.Moves.{with_next};
+
+    /// Sets what comes next. As a function of its own it would copy the item by SSE registers, which no step from C may write.
+    #[inline(always)]
+    pub(crate) fn set_next(&mut self, next: Next<T>)
+        ensures { self.new ≡ with_next next self.old }
+    {
+        drop(mem::replace(&mut self.next, next));
     }
 }

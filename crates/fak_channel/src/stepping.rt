@@ -1,53 +1,92 @@
-//! Calls by steps that never wait: their steps, and how they are given up.
+//! The steps of a call, of which none waits, and how a call is given up.
 
 ghost use Rattle.std.specs.Prelude.{◌≡◌, MatchOption};
-ghost use Rattle.fak_channel.specs.declared.standing.CallStanding.TheVariants.{Idle};
-ghost use Rattle.fak_channel.specs.ChannelSteps.{GivesUp, IsAsleep, IsInCall, IsStepSeatOf, Runs, StandsAfter, Steps};
-ghost use Rattle.fak_channel.specs.ChannelSteps.{Tells};
+ghost use Rattle.fak_channel.specs.ChannelSteps.{GivesUp, Runs, StandsAfter, Steps};
+ghost use Rattle.fak_channel.specs.Moves.{Moves, MovesNext, step_of};
+ghost use Rattle.fak_channel.specs.Standings.{IsAsleep, IsBetweenCalls, IsInCall, IsStepSeatOf, OwesNone};
 
 use crate::channel::Channel;
-use crate::standing::{CallStanding, ChannelStep, Wish};
-use crate::step_seat::ChannelStepSeat;
+use crate::progress::{Progress, Wake};
+use crate::seat::ChannelSeat;
+use crate::standing::{ChannelStep, Next, Wish};
+use fak_queue::Role;
 use std::mem;
 
 /// The most steps that `steps` takes.
 pub const STEPS_AT_ONCE: u64 = 16;
 
 impl<T: Drop> Channel<T> {
+    /// Takes one more step of the open call. It does not wait. What the end owes to others comes first.
+    pub(crate) fn advance(&self, seat: &mut ChannelSeat<T>) -> Progress<T>
+        requires stands { IsStepSeatOf self.now seat.old }
+        requires in_call { IsInCall seat.old }
+        ensures { Moves self.now seat.old seat.new (step_of result) }
+    {
+        if seat.standing.senders.is_owed {
+            return self.look(seat, Role::Sender);
+        }
+        if seat.standing.receivers.is_owed {
+            return self.look(seat, Role::Receiver);
+        }
+        if seat.standing.checks {
+            self.check(seat);
+            return Progress::GoesOn;
+        }
+        self.go_on(seat)
+    }
+
+    /// The step by what comes next.
+    fn go_on(&self, seat: &mut ChannelSeat<T>) -> Progress<T>
+        requires stands { IsStepSeatOf self.now seat.old }
+        requires in_call { IsInCall seat.old }
+        ensures { MovesNext self.now seat.old seat.new seat.old.standing.next (step_of result) }
+    {
+        match mem::replace(&mut seat.standing.next, Next::Idle) {
+            Next::Idle => unreachable!(),
+            Next::Claiming(Wish::Send(item)) => self.claim_room(seat, item),
+            Next::Claiming(Wish::Receive) => self.claim_item(seat),
+            Next::Inserting => self.fill(seat),
+            Next::Deleting => self.take_out(seat),
+            Next::Checking => self.check_empty(seat),
+            Next::Registering(wish) => self.register(seat, wish),
+            Next::Testing(Wish::Send(item)) => self.test_room(seat, item),
+            Next::Testing(Wish::Receive) => self.test_item(seat),
+            Next::TestingDrained => self.test_drained(seat),
+            Next::TakingBack(wish) => self.take_back(seat, wish),
+            Next::Sleeping(wish) => self.sleep(seat, wish),
+            Next::Refusing(wish) => {
+                seat.standing.set_next(Next::Refused(wish));
+                Progress::Sleeps
+            }
+            Next::Refused(wish) => {
+                seat.standing.set_next(Next::Claiming(wish));
+                Progress::GoesOn
+            }
+            Next::Shutting => self.shut(seat),
+            Next::Ending(outcome) => Progress::Ends(outcome),
+        }
+    }
+
     /// Takes one more step of the open call. It does not wait.
-    pub fn step(&self, seat: &mut ChannelStepSeat<T>) -> ChannelStep<T>
+    pub fn step(&self, seat: &mut ChannelSeat<T>) -> ChannelStep<T>
         requires stands { IsStepSeatOf self.now seat.old }
         requires in_call { IsInCall seat.old }
         ensures stands { IsStepSeatOf self.now seat.new }
         ensures after { StandsAfter seat.new result }
+        ensures moves { Moves self.now seat.old seat.new result }
         ensures call { Steps self.now.queue.size seat.old seat.new result }
-        ensures tells { Tells self.now seat.old seat.new result }
     {
-        match mem::replace(&mut seat.standing, CallStanding::Idle) {
-            CallStanding::Idle => unreachable!(),
-            CallStanding::Seeking(Wish::Send(item)) => self.seek_cell(seat, item),
-            CallStanding::Seeking(Wish::Receive) => self.seek_item(seat),
-            CallStanding::Parking(Wish::Send(item)) => self.park_for_cell(seat, item),
-            CallStanding::Parking(Wish::Receive) => self.park_for_item(seat),
-            CallStanding::Sleeping(Wish::Send(item)) => self.wait_for_cell(seat, item),
-            CallStanding::Sleeping(Wish::Receive) => self.wait_for_item(seat),
-            CallStanding::Claiming(Wish::Send(item)) => self.claim_room(seat, item),
-            CallStanding::Claiming(Wish::Receive) => self.claim_item(seat),
-            CallStanding::Inserting => self.fill(seat),
-            CallStanding::Deleting => self.take_out(seat),
-            CallStanding::Looking => self.look(seat),
-            CallStanding::Shutting => self.shut(seat),
-            CallStanding::ReleasingCell(outcome) => self.release_cell(seat, outcome),
-            CallStanding::WakingCell(outcome) => self.wake_sender(seat, outcome),
-            CallStanding::Announcing(outcome) => self.announce(seat, outcome),
-            CallStanding::ReleasingItem(outcome) => self.release_item(seat, outcome),
-            CallStanding::WakingItem(outcome) => self.wake_receiver(seat, outcome),
-            CallStanding::Ending(outcome) => ChannelStep::Ends(outcome),
+        match self.advance(seat) {
+            Progress::GoesOn => ChannelStep::GoesOn,
+            Progress::NotYet => ChannelStep::NotYet,
+            Progress::Sleeps => ChannelStep::Sleeps,
+            Progress::Wakes(Wake { number }) => ChannelStep::Wakes(number),
+            Progress::Ends(outcome) => ChannelStep::Ends(outcome),
         }
     }
 
     /// Takes steps of the open call until one does not go on, or `STEPS_AT_ONCE` of them are taken. None of them waits.
-    pub fn steps(&self, seat: &mut ChannelStepSeat<T>) -> ChannelStep<T>
+    pub fn steps(&self, seat: &mut ChannelSeat<T>) -> ChannelStep<T>
         requires stands { IsStepSeatOf self.now seat.old }
         requires in_call { IsInCall seat.old }
         ensures stands { IsStepSeatOf self.now seat.new }
@@ -67,30 +106,19 @@ impl<T: Drop> Channel<T> {
         ChannelStep::GoesOn
     }
 
-    /// Gives up a call that sleeps. What was asked comes back, and no call is open then. Returns `None` if another end
-    /// had woken the call before: then the call goes on with its next step.
-    pub fn give_up(&self, seat: &mut ChannelStepSeat<T>) -> Option<Wish<T>>
+    /// Gives up a call that sleeps, or a try that would have to. What was asked comes back, and no call is open then. Returns
+    /// `None` if another end had woken the call before: then the call goes on with its next step.
+    pub fn give_up(&self, seat: &mut ChannelSeat<T>) -> Option<Wish<T>>
         requires stands { IsStepSeatOf self.now seat.old }
         requires asleep { IsAsleep seat.old }
         ensures stands { IsStepSeatOf self.now seat.new }
-        ensures after { MatchOption result (IsInCall seat.new) (λ _. seat.new.standing ≡ Idle) }
+        ensures after { MatchOption result (IsInCall seat.new) (λ _. IsBetweenCalls seat.new) }
+        ensures tries { seat.new.standing.tries ≡ seat.old.standing.tries }
         ensures call { GivesUp self.now.queue.size seat.old seat.new result }
     {
-        match mem::replace(&mut seat.standing, CallStanding::Idle) {
-            CallStanding::Sleeping(Wish::Send(item)) => {
-                if self.cells.gives_up(&mut seat.cells) {
-                    seat.standing = CallStanding::Claiming(Wish::Send(item));
-                    return None;
-                }
-                Some(Wish::Send(item))
-            }
-            CallStanding::Sleeping(Wish::Receive) => {
-                if self.items.gives_up(&mut seat.items) {
-                    seat.standing = CallStanding::Claiming(Wish::Receive);
-                    return None;
-                }
-                Some(Wish::Receive)
-            }
+        match mem::replace(&mut seat.standing.next, Next::Idle) {
+            Next::Sleeping(wish) => self.give_up_sleep(seat, wish),
+            Next::Refused(wish) => Some(wish),
             _ => unreachable!(),
         }
     }

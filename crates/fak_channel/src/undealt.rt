@@ -4,17 +4,15 @@ ghost use Rattle.std.specs.Prelude.{◌≡◌, ℕ};
 ghost use Rattle.fak_channel.specs.declared.channel.Channel.{Channel};
 ghost use Rattle.fak_channel.specs.Undealt.{AreUndealt, DealsNext};
 
-use crate::permit_seat::PermitSeat;
 use crate::seat::ChannelSeat;
-use fak_queue::Seat;
+use crate::standing::CallStanding;
+use fak_queue::SleeperSeat;
 use std::vec::IntoIter;
 
 /// The seats of a channel that are still to be dealt, in the order of their numbers.
 #[derive(Drop)]
 pub struct UndealtSeats<T> {
-    pub(crate) queues: IntoIter<Seat<T>>,
-    pub(crate) items: IntoIter<PermitSeat>,
-    pub(crate) cells: IntoIter<PermitSeat>,
+    pub(crate) queues: IntoIter<SleeperSeat<T>>,
 }
 
 impl<T: Drop> UndealtSeats<T> {
@@ -24,12 +22,9 @@ impl<T: Drop> UndealtSeats<T> {
             → DealsNext c stint name left self.new result }
     {
         let queue = self.queues.next()?;
-        let items = self.items.next()?;
-        let cells = self.cells.next()?;
         Some(ChannelSeat {
             queue,
-            items,
-            cells,
+            standing: CallStanding::new(),
         })
     }
 }

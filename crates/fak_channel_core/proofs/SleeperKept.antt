@@ -126,7 +126,7 @@ pub record SleeperKept {A : Type 0} (n size : ℕ) (s : SleeperState A) : Type 0
 
 -- ---- signs
 
-registered_relies : (p : SleepStage) (t : Bool) → (is_registered p && t) ≡ true → relies_on_bit p ≡ true
+pub registered_relies : (p : SleepStage) (t : Bool) → (is_registered p && t) ≡ true → relies_on_bit p ≡ true
 registered_relies p t e = grind (arith, common_steps)
 
 past_relies : (p : SleepStage) (t : Bool) → (is_past_lower p && t) ≡ true → relies_on_bit p ≡ true
@@ -139,7 +139,7 @@ tries_none : {A : Type 0} (p : Phase A) → is_idle p ≡ true → (tries_in p �
 tries_none p i = grind (arith, common_steps)
 
 -- what a sign needs, of either side
-right_if : (d : Side) (e : ℕ) (v : Sign) → may_sign d e v ≡ true → Right (d.duty e) d.bit e v
+pub right_if : (d : Side) (e : ℕ) (v : Sign) → may_sign d e v ≡ true → Right (d.duty e) d.bit e v
 right_if d e Registers may = may
 right_if d e FindsNoItem may = absurd (not_both false may refl)
 right_if d e FallsAsleep may = absurd (not_both false may refl)

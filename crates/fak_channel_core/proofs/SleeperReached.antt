@@ -1,24 +1,22 @@
 -- What is true of a channel whose sleepers are bits in every reached state, and what follows if all ends rest.
-use Rattle.std.specs.Prelude.{◌≡◌, ◌⊎◌, ℕ, ◌+◌, ◌<◌, nat_lt, cond, pos, ◌≤ℤ◌, ◌&&◌, Bool, true, false, Option, None, Some, List, [], ◌∷◌, length}
-use Rattle.fak_model.specs.Histories.{sum_below}
+use Rattle.std.specs.Prelude.{◌≡◌, ℕ, ◌+◌, ◌<◌, nat_lt, cond, pos, ◌≤ℤ◌, ◌&&◌, Bool, true, false, Option, None, Some, List, [], ◌∷◌, length}
 use Rattle.fak_model.specs.Queue.{contents}
-use Rattle.fak_model.proofs.Leading.{sum_none, sum_same}
 use Rattle.fak_core.specs.declared.queue.phase.Phase.{Phase}
 use Rattle.fak_core.specs.declared.queue.phase.Phase.TheVariants.{Idle}
 use Rattle.fak_core.specs.declared.queue.step.QueueMove.{QueueMove}
 use Rattle.fak_core.specs.QueueMoves.{next_move, history_of, with_at}
 use Rattle.fak_core.specs.QueueSchedule.{QueueEvent, Inserts, Deletes, Shuts, Advances, after_step, happens}
-use Rattle.fak_core.proofs.Common.{arith, ints, common_steps, refl, ap, ◌∙◌, inl, inr}
+use Rattle.fak_core.proofs.Common.{arith, ints, refl, ap, ◌∙◌, inl, inr}
 use Rattle.fak_core.proofs.QueueSteps.{by_test, kept_opening}
 use Rattle.fak_core.proofs.QueueReached.{true_or_false}
 use Rattle.fak_core.proofs.QueueTurns.{at_here, at_else, le_or_lt}
-use Rattle.fak_channel_core.specs.SleeperSides.{Duty, SleepStage, Awake, Asleep, owes_look}
+use Rattle.fak_channel_core.specs.SleeperSides.{Duty, owes_look}
 use Rattle.fak_model.specs.declared.note.NoteKind.TheVariants.{Checks}
 use Rattle.fak_channel_core.specs.SleeperMoves.{Account, free_duty, SleeperState, sleeper_opening, sender_side, receiver_side, with_deed, queue_step, queue_event, is_void, sender_may, receiver_may, is_idle, sender_signs, receiver_signs, Notes}
 use Rattle.fak_channel_core.specs.SleeperSchedule.{SleeperEvent, OfQueue, SenderSigns, ReceiverSigns, ChecksUpper, end_of, sleeper_event, sleeper_happens, sleeper_run, sleeper_reached, SenderSleeps, ReceiverSleeps, AllEndsRest}
 use Rattle.fak_channel_core.proofs.SleeperCounts.{rested, holds_none, holds_all}
 use Rattle.fak_channel_core.proofs.SleeperTests.{not_both, both_true, make_both, lt_if, void_at}
-use Rattle.fak_channel_core.proofs.SleeperWeights.{SideKept, owed, owed_most, stirs, unset, is_asleep, is_past, none_passed}
+use Rattle.fak_channel_core.proofs.SleeperWeights.{SideKept, owed, owed_most, stirs, is_asleep, is_past, none_passed, sum_zero, owed_none, stirs_none}
 use Rattle.fak_channel_core.proofs.SleeperKept.{tries_in, tries_out, asks_in, asks_out, leaves_in, leaves_out, room_of, close_of, item_of, end_of as end_weight, room_total, close_total, item_total, end_total, SleeperKept, kept_sender, kept_receiver}
 use Rattle.fak_channel_core.proofs.SleeperQueue.{Stays, Moves, changes, kept_queue_event}
 
@@ -112,18 +110,6 @@ queue_goes n size s (Shuts e) = refl
 queue_goes n size s (Advances e) = stepped n s e (next_move size s.queue (s.queue.phase e))
 
 -- ---- if all ends rest
-
-sum_zero : (f : ℕ → ℕ) (n : ℕ) → ((k : ℕ) → k < n → f k ≡ 0) → sum_below f n ≡ 0
-sum_zero f n none = sum_same f (λ k. 0) n none ∙ sum_none (λ k. 0) n (λ k. refl)
-
-owed_none : (b : ℕ) (g : Duty) → g.looks ≡ 0 → owed b g ≡ 0
-owed_none b g none = grind (arith, common_steps)
-
-stirs_none : (p : SleepStage) (i t : Bool) → (p ≡ Awake) ⊎ ((p ≡ Asleep) × (i ≡ true)) → stirs p i t ≡ 0
-stirs_none p i t r = elim r [
-  | inl awake ↦ ap (λ p. stirs p i t) awake
-  | inr asleep ↦ ap (λ p. stirs p i t) asleep.0 ∙ ap unset asleep.1
-]
 
 module _ {A : Type 0} (n size : ℕ) (s : SleeperState A) (K : SleeperKept n size s) (rests : AllEndsRest n s) where
   idle : (k : ℕ) → s.queue.phase k ≡ Idle

@@ -3,7 +3,7 @@
 use Rattle.std.specs.Prelude.{◌≡◌, ◌≢◌, ◌⊎◌, ℕ, suc, zero, ◌+◌, ◌*◌, ◌/◌, ◌%◌, ◌==◌, ◌<◌, ◌≤◌, cond, Bool, true, false, not, ◌||◌}
 use Rattle.std.proofs.Math.Nat.{div-add-mod, mod-lt}
 use Rattle.fak_model.specs.Histories.{sum_below}
-use Rattle.fak_model.proofs.Leading.{sum_one, sum_same}
+use Rattle.fak_model.proofs.Leading.{sum_none, sum_one, sum_same}
 use Rattle.fak_core.specs.QueueMoves.{with_at}
 use Rattle.fak_core.proofs.Common.{arith, nat_tests, common_steps, refl, sym, ap, ◌∙◌, subst, inl, inr, same_or_not}
 use Rattle.fak_core.proofs.QueueTurns.{at_here, at_else, le_or_lt}
@@ -75,7 +75,7 @@ pub record SideKept (n : ℕ) (duty : ℕ → Duty) (bit : ℕ → Bool) : Type 
 -- ---- the weight of one end after its sign
 
 -- a name in a word without a bit set has its bit clear
-clear_bit : (bit : ℕ → Bool) (w b : ℕ) → is_clear bit w ≡ true → b / 64 ≡ w → bit b ≡ false
+pub clear_bit : (bit : ℕ → Bool) (w b : ℕ) → is_clear bit w ≡ true → b / 64 ≡ w → bit b ≡ false
 clear_bit bit w b all q =
     let r = all_at (λ j. not (bit (64 * w + j))) 64 (b % 64) all (mod-lt b (omega arith)) in
     let whole : 64 * w + b % 64 ≡ b = ap (λ v. 64 * v + b % 64) (sym q) ∙ div-add-mod b 64 in
@@ -171,7 +171,7 @@ module _ (n : ℕ) (duty duty' : ℕ → Duty) (bit : ℕ → Bool) (e : ℕ) (l
   in_use k set = elim (le_or_lt n k) [ inl le ↦ absurd (not_awake (duty k).stage (K.beyond k le) (K.owner k set)) | inr lt ↦ lt ]
 
   -- a sign sets no bit except the own one
-  bits_fall : (v : Sign) (k : ℕ) → k ≢ e → bits_after v e bit k ≡ true → bit k ≡ true
+  pub bits_fall : (v : Sign) (k : ℕ) → k ≢ e → bits_after v e bit k ≡ true → bit k ≡ true
   bits_fall Registers k ne set = sym (at_else bit e k true ne) ∙ set
   bits_fall TakesBack k ne set = sym (at_else bit e k false ne) ∙ set
   bits_fall (WakesEnd j) k ne set = elim (same_or_not k j) [
@@ -331,3 +331,17 @@ kept_same n duty duty' bit same K = record {
   beyond = λ k le. ap (λ g. g.stage) (same k) ∙ K.beyond k le;
   finished = λ k all. ap (λ g. g.looks) (same k) ∙ K.finished k (sym (ap (λ g. has_passed n g.passed) (same k)) ∙ all);
 }
+
+-- ---- rest
+
+pub sum_zero : (f : ℕ → ℕ) (n : ℕ) → ((k : ℕ) → k < n → f k ≡ 0) → sum_below f n ≡ 0
+sum_zero f n none = sum_same f (λ k. 0) n none ∙ sum_none (λ k. 0) n (λ k. refl)
+
+pub owed_none : (b : ℕ) (g : Duty) → g.looks ≡ 0 → owed b g ≡ 0
+owed_none b g none = grind (arith, common_steps)
+
+pub stirs_none : (p : SleepStage) (i t : Bool) → (p ≡ Awake) ⊎ ((p ≡ Asleep) × (i ≡ true)) → stirs p i t ≡ 0
+stirs_none p i t r = elim r [
+  | inl awake ↦ ap (λ p. stirs p i t) awake
+  | inr asleep ↦ ap (λ p. stirs p i t) asleep.0 ∙ ap unset asleep.1
+]

@@ -1,12 +1,10 @@
-pub mod SleepMoves
-pub mod SleepSchedule
-pub mod ChannelMoves
-pub mod ChannelSchedule
-pub mod ChannelExamples
-pub mod ChannelProgress
-pub mod ChannelRounds
 pub mod SleeperSides
 pub mod SleeperMoves
 pub mod SleeperSchedule
 pub mod SleeperProgress
 pub mod SleeperExamples
+pub mod LenderMoves
+pub mod LenderSchedule
+pub mod LenderHistory
+pub mod LenderProgress
+pub mod LenderExamples

@@ -3,9 +3,7 @@
 use super::assertions::{assert_case, assert_equal};
 use super::stepper::{Ended, Stepper, Tokens};
 use super::steps::open;
-use fak_channel::{
-    ChannelState, ChannelStep, ChannelWorn, End, Outcome, ReceiveFault, SendFault, Wish,
-};
+use fak_channel::{ChannelState, ChannelStep, End, Outcome, ReceiveFault, SendFault, Wish};
 use std::process::Abort;
 use std::sync::Wait;
 use std::sync::atomic::{AtomicU64, Ordering};
@@ -42,7 +40,7 @@ fn an_end_makes_each_call_by_steps(rt: HostRuntime) {
     let mut ends = channel.ends(rt.alloc(), seats).expect(&rt, "memory");
     let mut end = next(&rt, &mut ends, &tokens);
     assert_equal(&rt, end.number(), 0);
-    assert_equal(&rt, end.left(), 99);
+    assert_equal(&rt, end.left(), 100);
     assert_equal(&rt, end.begin_try_receive(&rt), Err(ReceiveFault::Empty));
     assert_equal(&rt, receive(&rt, &mut end), Ended::GaveUp(Wish::Receive));
     assert_equal(&rt, send(&rt, &mut end, 10), Ended::Done(Outcome::Sent));
@@ -77,16 +75,20 @@ fn an_end_makes_each_call_by_steps(rt: HostRuntime) {
 }
 
 #[test]
-fn an_end_with_a_stint_of_1_makes_no_call(rt: HostRuntime) {
+fn an_end_with_a_stint_of_1_makes_one_call_and_closes(rt: HostRuntime) {
     let (channel, seats) = open::<u64>(&rt, 1, 1, 1);
     let tokens = Tokens::new(&rt, 1);
     let mut ends = channel.ends(rt.alloc(), seats).expect(&rt, "memory");
     let mut end = next(&rt, &mut ends, &tokens);
+    assert_equal(&rt, end.left(), 1);
+    assert_equal(&rt, send(&rt, &mut end, 10), Ended::Done(Outcome::Sent));
     assert_equal(&rt, end.left(), 0);
-    let worn = SendFault::Worn { item: 10 };
-    assert_equal(&rt, end.begin_send(&rt, 10), Err(worn));
+    let worn = SendFault::Worn { item: 11 };
+    assert_equal(&rt, end.begin_send(&rt, 11), Err(worn));
+    assert_equal(&rt, end.begin_try_send(&rt, 11), Err(worn));
     assert_equal(&rt, end.begin_receive(&rt), Err(ReceiveFault::Worn));
-    assert_equal(&rt, end.begin_close(&rt), Err(ChannelWorn));
+    assert_equal(&rt, end.begin_try_receive(&rt), Err(ReceiveFault::Worn));
+    assert_equal(&rt, close(&rt, &mut end), Ended::Done(Outcome::Closed));
 }
 
 /// Takes steps of the call, one by one, until one does not go on.

@@ -13,7 +13,7 @@ use std::sync::Wait;
 
 /// Receives an item. If the channel is closed and drained, the end has seen that nothing is left in it.
 pub fn next<R: Wait>(rt: &R, end: &mut End<'_, u64>) -> Result<u64, ReceiveFault>
-    ensures { result ≡ Err ReceiveFault.Closed → contents end.new.seat.queue.seen ≡ [] }
+    ensures { result ≡ Err ReceiveFault.Closed → contents end.new.seat.queue.seat.seen ≡ [] }
 {
     a_drained_queue_stays_empty::<u64>();
     end.receive(rt)
@@ -21,7 +21,7 @@ pub fn next<R: Wait>(rt: &R, end: &mut End<'_, u64>) -> Result<u64, ReceiveFault
 
 /// Sends the item, or gives it back.
 pub fn offer<R: Wait>(rt: &R, end: &mut End<'_, u64>, item: u64) -> Result<(), u64>
-    ensures sent { IfOk result (λ _. (k : ℕ) × (item_at (items_put end.new.seat.queue.seen) k ≡ Some item)) }
+    ensures sent { IfOk result (λ _. (k : ℕ) × (item_at (items_put end.new.seat.queue.seat.seen) k ≡ Some item)) }
     ensures back { IfErr result (λ x. x ≡ item) }
 {
     match end.send(rt, item) {

@@ -1,7 +1,12 @@
 //! Which channels are opened, and what they leave.
 
+ghost use Rattle.std.specs.List.{All};
+ghost use Rattle.fak_channel.specs.Standings.{IsSeatOf};
+
 use super::assertions::assert_equal;
-use fak_channel::{Channel, End, LARGE_SEATS, LARGE_SIZE, LARGE_TICKETS, LargeFault, Tally};
+use fak_channel::{
+    Channel, ChannelSeat, End, LARGE_SEATS, LARGE_SIZE, LARGE_TICKETS, LargeFault, Tally,
+};
 use std::process::Abort;
 
 /// Why no channel of these numbers is opened.
@@ -33,15 +38,26 @@ fn channels_on_both_sides_of_each_limit(rt: HostRuntime) {
     }
 }
 
+/// Takes the last of the seats.
+fn take_seat<T>(
+    rt: &impl Abort,
+    channel: &Channel<T>,
+    seats: &mut Vec<ChannelSeat<T>>,
+) -> ChannelSeat<T>
+    requires { All (IsSeatOf channel.now) seats.old.items }
+    ensures others { All (IsSeatOf channel.now) seats.new.items }
+    ensures seat { IsSeatOf channel.now result }
+{
+    let _channel = channel;
+    seats.pop().expect(rt, "a seat")
+}
+
 #[test]
 fn items_that_nobody_received_are_left(rt: HostRuntime) {
     let Ok((channel, mut seats)) = Channel::open(rt.alloc(), 4, 1, 100) else {
         panic!(&rt; "a channel")
     };
-    let Some(seat) = seats.pop() else {
-        unreachable!()
-    };
-    let mut end = End::new(&channel, seat);
+    let mut end = End::new(&channel, take_seat(&rt, &channel, &mut seats));
     assert_equal(&rt, end.send(&rt, 10), Ok(()));
     assert_equal(&rt, end.send(&rt, 11), Ok(()));
     assert_equal(&rt, end.send(&rt, 12), Ok(()));
@@ -58,12 +74,8 @@ fn seats_are_joined(rt: HostRuntime) {
     let Ok((channel, mut seats)) = Channel::<u64>::open(rt.alloc(), 4, 2, 100) else {
         panic!(&rt; "a channel")
     };
-    let Some(second) = seats.pop() else {
-        unreachable!()
-    };
-    let Some(first) = seats.pop() else {
-        unreachable!()
-    };
+    let second = take_seat(&rt, &channel, &mut seats);
+    let first = take_seat(&rt, &channel, &mut seats);
     let tally: Tally<u64> = channel.tally(first);
     assert_equal(&rt, tally.is_whole(), false);
     let tally = channel.join(tally, second);

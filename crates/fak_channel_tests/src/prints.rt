@@ -63,7 +63,7 @@ fn values_are_written(rt: HostRuntime) {
         &rt,
         &end,
         "End { channel: Channel { queue: Queue { size: 4, .. }, .. }, \
-         seat: ChannelSeat { queue: Seat { name: 0, state: Idle, left: 100, .. }, .. } }",
+         seat: ChannelSeat { queue: SleeperSeat { name: 0, state: Idle, left: 100, .. }, state: Idle, .. } }",
     );
     assert_written(&rt, &SendFault::Full { item: 1 }, "Full { item: 1 }");
     let lender = Lender::new();
@@ -74,7 +74,7 @@ fn values_are_written(rt: HostRuntime) {
         &rt,
         &loan,
         "Loan { end: End { channel: Channel { queue: Queue { size: 4, .. }, .. }, \
-         seat: ChannelSeat { queue: Seat { name: 0, state: Idle, left: 100, .. }, .. } } }",
+         seat: ChannelSeat { queue: SleeperSeat { name: 0, state: Idle, left: 100, .. }, state: Idle, .. } } }",
     );
     lender.take_back(&rt, loan);
 }

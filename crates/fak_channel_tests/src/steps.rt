@@ -1,7 +1,7 @@
 //! Steps of ends, as rows of tests: which end performs which call, and what it returns.
 
 ghost use Rattle.std.specs.Prelude.{All};
-ghost use Rattle.fak_channel.specs.Channels.{IsSeatOf};
+ghost use Rattle.fak_channel.specs.Standings.{IsSeatOf};
 
 use fak_channel::{Channel, ChannelSeat, ChannelWorn, End, ReceiveFault, SendFault};
 use std::process::Abort;

@@ -98,12 +98,10 @@ module _ {stint n : ℕ} {handles : List PaddedHandle} (len : length handles ≡
     seated = subst (λ k. AreSeatedBelow (IsFreshSem shared stint) k handles) (sym len) seated;
   }
 
-  pub opened_channel : {size : ℕ} (made shared : Channel Item) → shared ≡ made → made.queue.size ≡ size → made.queue.object.seats ≡ n → made.items.start ≡ 0 → made.cells.start ≡ size → AreSeatedBelow (IsFreshChannel shared stint) n handles → IsOpenedChannel size stint handles
-  opened_channel made shared is size seats none all seated = record {
+  pub opened_channel : {size : ℕ} (made shared : Channel Item) → shared ≡ made → made.queue.size ≡ size → made.queue.object.seats ≡ n → AreSeatedBelow (IsFreshChannel shared stint) n handles → IsOpenedChannel size stint handles
+  opened_channel made shared is size seats seated = record {
     channel = shared;
     size_is = ap (λ (c : Channel Item). c.queue.size) is ∙ size;
     seats_are = ap (λ (c : Channel Item). c.queue.object.seats) is ∙ (seats ∙ sym len);
-    no_item = ap (λ (c : Channel Item). c.items.start) is ∙ none;
-    all_cells = ap (λ (c : Channel Item). c.cells.start) is ∙ all;
     seated = subst (λ k. AreSeatedBelow (IsFreshChannel shared stint) k handles) (sym len) seated;
   }

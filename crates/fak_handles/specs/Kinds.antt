@@ -6,7 +6,7 @@ use Rattle.fak_queue.specs.Queues.{state_of}
 use Rattle.fak_count.specs.Rooms.{held_amount}
 use Rattle.fak_files.specs.declared.phase.Hold.TheVariants as hold
 use Rattle.fak_sem.specs.declared.standing.Standing.TheVariants as standing
-use Rattle.fak_channel.specs.declared.standing.CallStanding.TheVariants as channel
+use Rattle.fak_channel.specs.Standings.{IsBetweenCalls}
 use Rattle.fak_handles.specs.bundle.Calls.{IsResting}
 use Rattle.fak_handles.specs.declared.desk.Desk.{Desk}
 use Rattle.fak_handles.specs.declared.desk.Desk.TheVariants.{Queue, Semaphore, Room, Credit, Files, Channel, Bundle}
@@ -84,7 +84,7 @@ IsAtRest (Semaphore d) = d.seat.standing ≡ standing.Idle
 IsAtRest (Room d) = held_amount d.seat ≡ 0
 IsAtRest (Credit d) = Unit {0}
 IsAtRest (Files d) = d.seat.hold ≡ hold.Nothing
-IsAtRest (Channel d) = d.value.seat.standing ≡ channel.Idle
+IsAtRest (Channel d) = IsBetweenCalls d.value.seat
 IsAtRest (Bundle d) = IsResting d.value
 
 -- a seat at rest is given up, and any other is kept

@@ -14,10 +14,8 @@ use Rattle.fak_files.specs.declared.phase.Hold.TheVariants.{Nothing}
 use Rattle.fak_sem.specs.Semaphores.{SemInfo, seats_of}
 use Rattle.fak_sem.specs.Opening.{AreLargeSizes}
 use Rattle.fak_sem.specs.declared.standing.Standing.TheVariants.{Idle}
-use Rattle.fak_channel.specs.Channels.{fresh_channel_seat}
-use Rattle.fak_channel.specs.ChannelSteps.{rest_of}
+use Rattle.fak_channel.specs.Undealt.{fresh_channel_seat}
 use Rattle.fak_channel.specs.declared.channel.Channel.{Channel as ChannelInfo}
-use Rattle.fak_channel.specs.declared.standing.CallStanding.TheVariants as standing
 use Rattle.fak_handles.specs.declared.channel.seat.Item.{Item}
 use Rattle.fak_handles.specs.declared.desk.Desk.{Desk}
 use Rattle.fak_handles.specs.declared.desk.Desk.TheVariants.{Queue, Semaphore, Room, Credit, Files, Channel, Bundle}
@@ -71,7 +69,7 @@ IsFreshSem sem stint name (Semaphore d) =
 IsFreshSem sem stint name _ = ⊥
 
 abbrev pub IsFreshChannel : ChannelInfo Item → ℕ → ℕ → Desk → Type 0
-IsFreshChannel channel stint name (Channel d) = (arc_value d.value.channel ≡ channel) × (d.value.seat.standing ≡ standing.Idle) × (rest_of d.value.seat ≡ fresh_channel_seat channel stint name)
+IsFreshChannel channel stint name (Channel d) = (arc_value d.value.channel ≡ channel) × (d.value.seat ≡ fresh_channel_seat channel stint name)
 IsFreshChannel channel stint name _ = ⊥
 
 -- ---- each kind of object, as it is opened: each handle has a seat of one object
@@ -111,8 +109,6 @@ pub record IsOpenedChannel (size stint : ℕ) (handles : List PaddedHandle) : Ty
   pub channel : ChannelInfo Item
   pub size_is : channel.queue.size ≡ size
   pub seats_are : channel.queue.object.seats ≡ length handles
-  pub no_item : channel.items.start ≡ 0
-  pub all_cells : channel.cells.start ≡ size
   pub seated : AreSeatedBelow (IsFreshChannel channel stint) (length handles) handles
 
 abbrev pub OpensQueue : ℤ → ℕ → ℕ → List PaddedHandle → Type 0

@@ -4,7 +4,7 @@ ghost use Rattle.std.specs.Prelude.{◌≡◌, None, Some, MatchOption};
 
 use crate::desk::Desk;
 use crate::handle::Handle;
-use crate::kind::Kind;
+use crate::seat_kind::SeatKind;
 use std::alloc::Global;
 use std::mem;
 
@@ -39,7 +39,7 @@ impl PaddedHandle {
     }
 
     /// Lends the seat of this kind. `None` if the handle is empty, or has a seat of another kind.
-    pub fn lend<K: Kind>(&mut self) -> Option<&mut K>
+    pub fn lend<K: SeatKind>(&mut self) -> Option<&mut K>
         ensures* writes_back { sem 𝓛 (LendsIf the_row K.row self.entry result
             (with_seat_at K.with_seat self.entry.now self.entry.now.handle.desk) self.entry.now) }
         ensures value { MatchOption result (K.seat_in self.old.handle.desk ≡ None)

@@ -1,7 +1,8 @@
 -- What marks and notes add to a seat's account.
-use Rattle.std.specs.Prelude.{◌≡◌, ◌≢◌, ℕ, suc, ◌-◌, List, [], ◌∷◌, ◌++◌, length, map, reverse}
+use Rattle.std.specs.Prelude.{◌≡◌, ◌≢◌, ℕ, suc, ◌-◌, ◌≤◌, List, [], ◌∷◌, ◌++◌, length, map, reverse}
 use Rattle.std.proofs.Common.{arith, refl, ap, sym, ◌∙◌, subst}
 use Rattle.std.proofs.lemmas.List.{map-append, reverse-append}
+use Rattle.std.proofs.Common.{length-append}
 use Rattle.fak_model.specs.declared.note.Note.{Note}
 use Rattle.fak_model.specs.declared.note.NoteKind.{NoteKind}
 use Rattle.fak_model.specs.declared.queue.Kind.{Kind}
@@ -78,6 +79,16 @@ kinds_after {T} size kinds old new makes =
     let mine : marks_of seat_of new.name (reverse new.seen) ≡ reverse (made_by old.name kinds) ++ marks_of seat_of old.name (reverse old.seen) =
     marks_of-reverse seat_of new.name new.seen ∙ (ap reverse makes.mine ∙ (reverse-append (mine_of seat_of old) (made_by old.name kinds) ∙ ap (λ l. reverse (made_by old.name kinds) ++ l) (sym (marks_of-reverse seat_of old.name old.seen)))) in
     ap (map kind) mine ∙ (map-append kind (reverse (made_by old.name kinds)) (marks_of seat_of old.name (reverse old.seen)) ∙ ap (λ l. l ++ kinds_by old.name (reverse old.seen)) (kinds_reverse old.name kinds))
+
+pub within_upto : (notes : List Note) (few many : ℕ) → few ≤ many → AreWithin notes few → AreWithin notes many
+within_upto [] few many l w = tt
+within_upto (x ∷ notes) few many l w = omega (arith, l, w)
+
+-- a call leaves the seat's own marks as they were, and perhaps more
+pub marks_grow : {T : Type 0} (size : ℕ) (kinds : List (Kind T)) (old new : SeatInfo (Mark T)) → Makes size kinds old new → marks_by old ≤ marks_by new
+marks_grow size kinds old new makes =
+    let long = ap length (kinds_after size kinds old new makes) ∙ length-append (reverse kinds) (kinds_by old.name (reverse old.seen)) in
+    omega (arith, long)
 
 pub account_made : {T : Type 0} (seats size : ℕ) (notes : List Note) (kinds : List (Kind T)) (old new : SeatInfo (Mark T)) → AreWithin notes (marks_by old) → Makes size kinds old new
     → account_by seats notes new ≡ after_kinds seats (reverse kinds) (account_by seats notes old)

@@ -1,6 +1,6 @@
 -- Each atomic step is one that the table's rule allows.
 use Rattle.fak_core.specs.declared.queue.phase.Phase.TheVariants.{Idle, AddUp, BackUp, TicketIn, TurnIn, StoreItem, EndInsert, SubLow, BackLow, TicketOut, TurnOut, LoadItem, EndDelete}
-use Rattle.fak_queue.proofs.Common.{Alike, Standing, UpperCount, QueueLimits, IsUpperCount, QueueHolder, queue_object, IsShownQueue, ◌≡◌, ℕ, ◌+◌, ◌-◌, ◌*◌, ◌/◌, ◌%◌, ◌^◌, ◌<◌, List, [], ◌∷◌, slice_index, sym, ap, ◌∙◌, subst, arith, bit_or, bias, ℤ, pos, ◌+ℤ◌, Option, Some, None, some, get_elem?, Allows, carried_after, Phase, TestedUp, TestsUp, AddedUp, AddsUp, BacksUp, DrewIn, DrawsIn, TurnedIn, TurnsIn, FilledCell, SetsFull, EndsIn, TestsLow, SubtractsLow, BacksLow, DrawsOut, TurnedOut, TurnsOut, FreedCell, SetsFree, EndsOut, Shuts, HeardJoin, Named, hears}
+use Rattle.fak_queue.proofs.Common.{Alike, Phases, UpperCount, QueueLimits, IsUpperCount, QueueHolder, queue_object, IsShownQueue, ◌≡◌, ℕ, ◌+◌, ◌-◌, ◌*◌, ◌/◌, ◌%◌, ◌^◌, ◌<◌, List, [], ◌∷◌, slice_index, sym, ap, ◌∙◌, subst, arith, bit_or, bias, ℤ, pos, ◌+ℤ◌, Option, Some, None, some, get_elem?, Allows, carried_after, Phase, TestedUp, TestsUp, AddedUp, AddsUp, BacksUp, DrewIn, DrawsIn, TurnedIn, TurnsIn, FilledCell, SetsFull, EndsIn, TestsLow, SubtractsLow, BacksLow, DrawsOut, TurnedOut, TurnsOut, FreedCell, SetsFree, EndsOut, Shuts, HeardJoin, Named, hears}
 use Rattle.fak_queue.specs.declared.in_use.InUse.{InUse}
 use Rattle.fak_queue.specs.Steps.{ObservedUp, ObservesUp, ObservedLow, ObservesLow}
 use Rattle.fak_queue.specs.Words.{IsInUse}
@@ -22,10 +22,10 @@ item_of_turn e = (cc, cc)
 item_of_store : {T : Type 0} {j k : ℕ} {x y : T} → Some (Alike (StoreItem j x)) ≡ Some (Alike (StoreItem k y)) → j ≡ k
 item_of_store e = cc
 
-ticket_of_turn : {T : Type 0} {j k : ℕ} → ◌≡◌ {A = Option (Standing T)} (Some (Alike (TurnOut j))) (Some (Alike (TurnOut k))) → j ≡ k
+ticket_of_turn : {T : Type 0} {j k : ℕ} → ◌≡◌ {A = Option (Phases T)} (Some (Alike (TurnOut j))) (Some (Alike (TurnOut k))) → j ≡ k
 ticket_of_turn e = cc
 
-ticket_of_load : {T : Type 0} {j k : ℕ} → ◌≡◌ {A = Option (Standing T)} (Some (Alike (LoadItem j))) (Some (Alike (LoadItem k))) → j ≡ k
+ticket_of_load : {T : Type 0} {j k : ℕ} → ◌≡◌ {A = Option (Phases T)} (Some (Alike (LoadItem j))) (Some (Alike (LoadItem k))) → j ≡ k
 ticket_of_load e = cc
 
 first_same : {a b : ℕ} → a ∷ [] ≡ b ∷ [] → a ≡ b

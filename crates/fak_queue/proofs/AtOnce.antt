@@ -1,6 +1,7 @@
 -- A claim and the rest of its call, with no call of the seat between them.
 use Rattle.fak_model.specs.Calls.{object_id, SeatInfo}
 use Rattle.fak_queue.proofs.Common.{QueueLimits, Idle, QueueHolder, QueueInfo, queue_info, drawn_by, state_of, IsQueue, queue_seat, IsQueueSeat, Inserts, Deletes, ClaimedIn, Filled, ClaimedOut, Taken, ◌≡◌, ℕ, ◌+◌, ◌-◌, ◌<◌, refl, sym, ap, ◌∙◌, subst, arith, TableId, Mark, Phase, TurnIn, TurnOut}
+use Rattle.fak_queue.proofs.PartSteps.{noted_then}
 use Rattle.fak_queue.proofs.SeatCalls.{idle_now, seat_after, state_after, drawn_after, left_less, left_same, claims_in, claims_out, fills, takes}
 use Rattle.fak_queue.proofs.WholeCalls.{inserted, deleted}
 
@@ -35,6 +36,9 @@ module _ {T : Type 0} (key : QueueLimits) {size seats name left : ℕ} {p : Phas
         let filled : drawn_by New ≡ drawn_by Mid + 0 = drawn_after key seat_claimed_in q refl queue_is mid_fits fill kept_in stays_then in
         omega (arith, claimed, filled)
 
+    pub noted_inserted : after.0.noted ≡ m.0.noted
+    noted_inserted = noted_then fill ∙ noted_then claim.part
+
     pub inserts : 0 < left → Inserts queue.size k x old New
     inserts some_left = inserted queue.size old Mid New k x (claims_in key f q seat_is queue_is fits stays mid some_left claim) (fills key seat_claimed_in q refl queue_is mid_fits stays_then after fill)
 
@@ -56,6 +60,9 @@ module _ {T : Type 0} (key : QueueLimits) {size seats name left : ℕ} {p : Phas
         let claimed : drawn_by Mid ≡ drawn_by old + 1 = drawn_after key f q seat_is queue_is fits claim.part (left_less key f q seat_is queue_is fits) stays in
         let taken : drawn_by New ≡ drawn_by Mid + 0 = drawn_after key seat_claimed_out q refl queue_is mid_fits take.part kept_out stays_then in
         omega (arith, claimed, taken)
+
+    pub noted_deleted : after.0.noted ≡ m.0.noted
+    noted_deleted = noted_then take.part ∙ noted_then claim.part
 
     pub deletes : 0 < left → Deletes queue.size k x old New
     deletes some_left = deleted queue.size old Mid New k x (claims_out key f q seat_is queue_is fits stays mid some_left claim) (takes key seat_claimed_out q refl queue_is mid_fits stays_then after take)

@@ -1,5 +1,5 @@
 -- Each step on the bits of sleepers keeps what the queue's table shows, and tells what it did.
-use Rattle.std.specs.Prelude.{◌%◌, not, int_lt, nat_eq, ◌&&◌}
+use Rattle.std.specs.Prelude.{◌%◌, not, int_lt, nat_eq, ◌&&◌, ◌≤ℤ◌, ◌<ℤ◌}
 use Rattle.std.specs.Int.{w64}
 use Rattle.std.specs.Int.Bits.{bit_and}
 use Rattle.std.proofs.lemmas.List.{set-get_or}
@@ -19,6 +19,8 @@ use Rattle.fak_queue.specs.declared.in_use.InUse.{InUse}
 use Rattle.fak_queue.specs.declared.role.Role.{Role}
 use Rattle.fak_queue.specs.declared.role.Role.TheVariants.{Sender, Receiver}
 use Rattle.fak_queue.specs.Accounts.{account_of, kinds_by}
+use Rattle.fak_queue.specs.Drained.{IsDrained}
+use Rattle.fak_queue.specs.Found.{HasRoom, HasNoRoom, HasItem, HasNoItem}
 use Rattle.fak_queue.specs.SeatAccounts.{HasAccount}
 use Rattle.fak_queue.specs.BitSteps.{Notes, note_by, mask_of, others_of, is_drained, SetBit, SawBit, TookBack, GaveUp, Looked, Cleared, TestedRoomAgain, TestedItemAgain, TestedDrainedAgain, CheckedDrained}
 use Rattle.fak_queue.specs.Sleepers.{AreSleepers, as_role, bits_as, duty_as, first_bits, has_bit, is_set}
@@ -30,7 +32,7 @@ use Rattle.fak_queue.proofs.Accounts.{kinds_foreign}
 use Rattle.fak_queue.proofs.Sleepers.{few_words, word_else}
 use Rattle.fak_queue.proofs.WordWrites.{below_word, full_word, shut_above, open_below, only_shut, only_below, only_full, only_positive, only_empty, positive_word, empty_word}
 use Rattle.fak_queue.proofs.Stepping.{QueueTable, queue_law, Permits, one_of, stands, loaded, upper_bounds, upper_most, upper_shut, upper_open, upper_past, lower_past}
-use Rattle.fak_queue.proofs.Common.{Alike, UpperCount, LowerCount, IsUpperCount, IsLowerCount, QueueLimits, AreWords, QueueView, QueueHolder, queue_object, IsShownQueue, IsEncoded, Leaves, TellsNothing, ◌≡◌, ◌≢◌, ℕ, ◌+◌, ◌*◌, ◌/◌, ◌<◌, ◌≤◌, List, [], ◌∷◌, length, slice_index, set, refl, sym, ap, ◌∙◌, subst, inl, inr, arith, length-set, bit_or, Some, Bool, true, false, ℤ, pos, reverse, true_or_false, some, get_elem?, In, sight, keeps, stepped, steps, upper_count, lower_count, Mark, kept, with_at}
+use Rattle.fak_queue.proofs.Common.{Alike, UpperCount, LowerCount, IsUpperCount, IsLowerCount, QueueLimits, AreWords, QueueView, QueueHolder, queue_object, IsShownQueue, IsEncoded, Leaves, TellsNothing, ◌≡◌, ◌≢◌, ℕ, ◌+◌, ◌*◌, ◌/◌, ◌<◌, ◌≤◌, List, [], ◌∷◌, length, slice_index, set, refl, sym, ap, ◌∙◌, subst, inl, inr, arith, length-set, bit_or, Some, Bool, true, false, ℤ, pos, reverse, true_or_false, some, get_elem?, In, sight, keeps, stepped, steps, upper_count, lower_count, Mark, kept, with_at, Has, Close, has_back, has_reverse, ints, common_steps}
 
 -- ---- a bit of a word
 
@@ -48,6 +50,32 @@ clear_else w k i l ne = ap (λ d. nat_eq d 1) (bit_at_clear_other w64 w (k % 64)
 
 no_bit : (j : ℕ) → has_bit 0 j ≡ false
 no_bit j = ap (λ d. nat_eq d 1) (bit_at-zero j)
+
+-- ---- what a count shows
+
+and_true : (a b : Bool) → (a && b) ≡ true → (a ≡ true) × (b ≡ true)
+and_true a b e = grind (arith, common_steps)
+
+and_false : (a b : Bool) → a ≡ true → (a && b) ≡ false → b ≡ false
+and_false a b t e = grind (arith, common_steps)
+
+void_at_most : (u v : ℤ) → not (int_lt (pos 0) u) ≡ true → u ≡ v → v ≤ℤ pos 0
+void_at_most u v e f = grind (arith, ints)
+
+not_void_above : (u v : ℤ) → not (int_lt (pos 0) u) ≡ false → u ≡ v → v ≤ℤ pos 0 → ⊥
+not_void_above u v e f l = grind (arith, ints)
+
+room_below : (u v : ℤ) (size : ℕ) → int_lt u (pos size) ≡ true → u ≡ v → v <ℤ pos size
+room_below u v size e f = grind (arith, ints)
+
+full_from : (w u : ℤ) (size : ℕ) → int_lt u (pos size) ≡ false → w ≡ u → pos size ≤ℤ w
+full_from w u size e f = grind (arith, ints)
+
+item_above : (l v : ℤ) → int_lt (pos 0) l ≡ true → l ≡ v → pos 0 <ℤ v
+item_above l v e f = grind (arith, ints)
+
+none_from : (w l : ℤ) → int_lt (pos 0) l ≡ false → w ≡ l → w ≤ℤ pos 0
+none_from w l e f = grind (arith, ints)
 
 module _ {T : Type 0} (key : QueueLimits) (s : QueueTable T) (r : IsShownQueue key s) (id n : ℕ) (m : QueueHolder T) (at : get_elem? s.views id ≡ some m.0) (one : m.0.names ≡ n ∷ []) where
   S : AreSleepers key.size key.seats r.core r.notes s.words
@@ -239,6 +267,28 @@ module _ {T : Type 0} (key : QueueLimits) (s : QueueTable T) (r : IsShownQueue k
 
     -- ---- tests
 
+    -- what the past has by the state of the core
+    was_shut : r.core.shut ≡ true → Has Close (reverse r.core.past)
+    was_shut e = has_reverse Close r.core.past ((kept key.size r.core r.reached.reached r.encoded.some_cell).closed.0 e)
+
+    was_open : r.core.shut ≡ false → Has Close (reverse r.core.past) → ⊥
+    was_open e h = (kept key.size r.core r.reached.reached r.encoded.some_cell).closed.1 e (has_back Close r.core.past h)
+
+    upper_is : r.core.upper ≡ upper_count (reverse r.core.past)
+    upper_is = upper_past key s r id n m at one
+
+    lower_is : r.core.lower ≡ lower_count (reverse r.core.past)
+    lower_is = lower_past key s r id n m at one
+
+    was_drained : (r.core.shut && is_void r.core) ≡ true → IsDrained (reverse r.core.past)
+    was_drained e = let both = and_true r.core.shut (is_void r.core) e in (was_shut both.0, void_at_most r.core.upper _ both.1 upper_is)
+
+    was_live : (r.core.shut && is_void r.core) ≡ false → IsDrained (reverse r.core.past) → ⊥
+    was_live e d = elim (true_or_false r.core.shut) [
+      | inr opn ↦ was_open opn d.0
+      | inl shut ↦ not_void_above r.core.upper _ (and_false r.core.shut (is_void r.core) shut e) upper_is d.1
+    ]
+
     pub tests_room_again : HasAccount key.seats (λ g. g.sender.stage ≡ Registered) m
         → Permits key s r id n m at one 16 (λ w. w) (λ found after. (u : UpperCount) → IsUpperCount key.size found u → TestedRoomAgain key.size key.seats n u m after)
     tests_room_again A =
@@ -248,15 +298,15 @@ module _ {T : Type 0} (key : QueueLimits) (s : QueueTable T) (r : IsShownQueue k
         let calm : QueueView T = sight m.0.names m.0.noted r.core.past Idle m.0.left in
         let Then : QueueHolder T → UpperCount → Type 0 = λ after u. TestedRoomAgain key.size key.seats n u m after in
         elim (true_or_false r.core.shut) [
-          | inl shut ↦ (let q = quiet_load 16 TellsNothing tt in
+          | inl shut ↦ (let q = quiet_load 16 (λ past. Has Close (reverse past)) (was_shut shut) in
               (calm, keeps, tt, q.0, only_shut (Then (calm, m.1)) key.size w r.encoded.few_cells (shut_above w 0 most r.core.upper (upper_shut key s r id n m at one shut) b.0 (omega arith)) q.1))
           | inr opn ↦ (let word = upper_open key s r id n m at one opn in
               elim (true_or_false (int_lt r.core.upper (pos key.size))) [
-                | inl lt ↦ (let q = quiet_load 16 TellsNothing tt in
+                | inl lt ↦ (let q = quiet_load 16 (λ past. HasRoom key.size (reverse past)) (room_below r.core.upper _ key.size lt upper_is, was_open opn) in
                     (calm, keeps, tt, q.0, only_below (Then (calm, m.1)) key.size w r.encoded.few_cells (below_word w key.size r.core.upper word lt) q.1))
                 | inr ge ↦ (let v : QueueView T = sight m.0.names (with_note (note_by n (AsSender FallsAsleep) m) m.0.noted) r.core.past Idle m.0.left in
                     let may = may_sleep_full key.seats key.size n r.core r.notes s.words S (known A) opn ge in
-                    let q : (u : ℤ) → u ≡ r.core.upper → _ = λ u f. note_load Sender FallsAsleep (λ bit. refl) may 16 (λ past. u ≡ upper_count (reverse past)) (f ∙ upper_past key s r id n m at one) in
+                    let q : (u : ℤ) → u ≡ r.core.upper → _ = λ u f. note_load Sender FallsAsleep (λ bit. refl) may 16 (λ past. HasNoRoom key.size u (reverse past)) (f ∙ upper_is, full_from u r.core.upper key.size ge f, was_open opn) in
                     (v, keeps, tt, (q r.core.upper refl).0, only_full (Then (v, m.1)) key.size w r.core.upper (full_word w key.size r.core.upper word ge) (open_below w 0 most r.core.upper word b.0 b.1) word (λ u f. (q u f).1)))
               ])
         ]
@@ -269,11 +319,11 @@ module _ {T : Type 0} (key : QueueLimits) (s : QueueTable T) (r : IsShownQueue k
         let Then : QueueHolder T → LowerCount → Type 0 = λ after l. TestedItemAgain key.size key.seats n l m after in
         elim (true_or_false (int_lt (pos 0) r.core.lower)) [
           | inl lt ↦ (let calm : QueueView T = sight m.0.names m.0.noted r.core.past Idle m.0.left in
-              let q = quiet_load 32 TellsNothing tt in
+              let q = quiet_load 32 (λ past. HasItem (reverse past)) (item_above r.core.lower _ lt lower_is) in
               (calm, keeps, tt, q.0, only_positive (Then (calm, m.1)) w (positive_word w r.core.lower word lt) q.1))
           | inr ge ↦ (let v : QueueView T = sight m.0.names (with_note (note_by n (AsReceiver FindsNoItem) m) m.0.noted) r.core.past Idle m.0.left in
               let may = may_find_none key.seats key.size n r.core r.notes s.words S (known A) ge in
-              let q : (l : ℤ) → l ≡ r.core.lower → _ = λ l f. note_load Receiver FindsNoItem (λ bit. refl) may 32 (λ past. l ≡ lower_count (reverse past)) (f ∙ lower_past key s r id n m at one) in
+              let q : (l : ℤ) → l ≡ r.core.lower → _ = λ l f. note_load Receiver FindsNoItem (λ bit. refl) may 32 (λ past. HasNoItem l (reverse past)) (f ∙ lower_is, none_from l r.core.lower ge f) in
               (v, keeps, tt, (q r.core.lower refl).0, only_empty (Then (v, m.1)) w r.core.lower (empty_word w r.core.lower word ge) word (λ l f. (q l f).1)))
         ]
 
@@ -291,17 +341,25 @@ module _ {T : Type 0} (key : QueueLimits) (s : QueueTable T) (r : IsShownQueue k
     tests_drained_again A =
         elim (true_or_false (r.core.shut && is_void r.core)) [
           | inl drained ↦ (let calm : QueueView T = sight m.0.names m.0.noted r.core.past Idle m.0.left in
-              let q = quiet_load 16 TellsNothing tt in
+              let q = quiet_load 16 (λ past. IsDrained (reverse past)) (was_drained drained) in
               (calm, keeps, tt, q.0, λ u is. subst (λ b. TestedDrainedAgain key.size key.seats n b m (calm, m.1)) (sym (drained_is u is ∙ drained)) q.1))
           | inr live ↦ (let v : QueueView T = sight m.0.names (with_note (note_by n (AsReceiver FallsAsleep) m) m.0.noted) r.core.past Idle m.0.left in
-              let q = note_load Receiver FallsAsleep (λ bit. refl) (may_sleep_empty key.seats key.size n r.core r.notes s.words S (known A) live) 16 TellsNothing tt in
+              let q = note_load Receiver FallsAsleep (λ bit. refl) (may_sleep_empty key.seats key.size n r.core r.notes s.words S (known A) live) 16 (λ past. IsDrained (reverse past) → ⊥) (was_live live) in
               (v, keeps, tt, q.0, λ u is. subst (λ b. TestedDrainedAgain key.size key.seats n b m (v, m.1)) (sym (drained_is u is ∙ live)) q.1))
         ]
 
+    -- a check, whose note says what it found
+    check_step : (d : Bool) → (r.core.shut && is_void r.core) ≡ d → (tells : List (Mark T) → Type 0) → tells r.core.past → Noted (Checks d) 16 (slice_index s.words 16) tells
+    check_step d is tells told =
+        let sleepers = checked key.seats key.size n r.core r.notes s.words S low idle d is s.words S.bits in
+        note_step (Checks d) 16 (slice_index s.words 16) (loaded key s r id n m at one 16) (subst (AreSleepers key.size key.seats r.core _) (sym (set-get_or s.words 16 0)) sleepers) tells told
+
     pub checks_drained : Permits key s r id n m at one 16 (λ w. w) (λ found after. (u : InUse) → IsInUse found u → CheckedDrained key.size key.seats n (is_drained u) m after)
     checks_drained =
-        let d = r.core.shut && is_void r.core in
-        let v : QueueView T = sight m.0.names (with_note (note_by n (Checks d) m) m.0.noted) r.core.past Idle m.0.left in
-        let sleepers = checked key.seats key.size n r.core r.notes s.words S low idle d refl s.words S.bits in
-        let q = note_step (Checks d) 16 (slice_index s.words 16) (loaded key s r id n m at one 16) (subst (AreSleepers key.size key.seats r.core _) (sym (set-get_or s.words 16 0)) sleepers) TellsNothing tt in
-        (v, keeps, tt, q.0, λ u is. subst (λ b. CheckedDrained key.size key.seats n b m (v, m.1)) (sym (drained_is u is)) q.1)
+        let view : Bool → QueueView T = λ d. sight m.0.names (with_note (note_by n (Checks d) m) m.0.noted) r.core.past Idle m.0.left in
+        elim (true_or_false (r.core.shut && is_void r.core)) [
+          | inl drained ↦ (let q = check_step true drained (λ past. IsDrained (reverse past)) (was_drained drained) in
+              (view true, keeps, tt, q.0, λ u is. subst (λ b. CheckedDrained key.size key.seats n b m (view true, m.1)) (sym (drained_is u is ∙ drained)) q.1))
+          | inr live ↦ (let q = check_step false live (λ past. IsDrained (reverse past) → ⊥) (was_live live) in
+              (view false, keeps, tt, q.0, λ u is. subst (λ b. CheckedDrained key.size key.seats n b m (view false, m.1)) (sym (drained_is u is ∙ live)) q.1))
+        ]

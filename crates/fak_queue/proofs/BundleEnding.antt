@@ -7,7 +7,7 @@ use Rattle.fak_model.specs.Shown.{Leaves}
 use Rattle.fak_core.specs.declared.queue.phase.Phase.TheVariants.{Idle, TurnIn, EndInsert}
 use Rattle.fak_core.specs.QueueBlocks.{Posts, names_of, AreApart, all_at, marks_back}
 use Rattle.fak_core.proofs.QueueBlocks.{apart_left, apart_right}
-use Rattle.fak_queue.specs.Bursts.{AllIn, Makes, EndedBurst, once_rest, posts_to, tickets_of}
+use Rattle.fak_queue.specs.Bursts.{AllIn, LeavesMarks, EndedBurst, once_rest, posts_to, tickets_of}
 use Rattle.fak_queue.specs.Bundles.{SaysOf, MadeFrom, Filling, FillsOn, FilledOn, fills_at, filled_at, LastEnds}
 use Rattle.fak_queue.proofs.BurstNames.{all_of, makes_step, begins_trans}
 use Rattle.fak_queue.proofs.BurstPosts.{posts_here, posts_else}
@@ -70,7 +70,7 @@ module _ (names : List ℕ) (lo hi : ℕ) (apart : AreApart names) (order : lo �
 
   -- each of these names makes one more mark
   pub made_ends : {T : Type 0} {size seats : ℕ} {m a c : QueueHolder T} (κ : Kind T) (kinds_at more_at : ℕ → List (Kind T)) (k : ℕ) → ((i n : ℕ) → made_by n (more_at i) ≡ made_by n (kinds_at i) ++ mark n κ ∷ [])
-      → MadeFrom size seats names lo hi kinds_at m a → a.0.names ≡ names → c.0.left ≡ a.0.left → Makes size seats (marks_back (λ (t : ℕ). κ) (tickets_of (slice_range names lo hi) k)) a c → MadeFrom size seats names lo hi more_at m c
+      → MadeFrom size seats names lo hi kinds_at m a → a.0.names ≡ names → c.0.left ≡ a.0.left → LeavesMarks size seats (marks_back (λ (t : ℕ). κ) (tickets_of (slice_range names lo hi) k)) a c → MadeFrom size seats names lo hi more_at m c
   made_ends {T} {m = m} {a = a} {c = c} κ kinds_at more_at k adds so own left steps =
       let ss = tickets_of (slice_range names lo hi) k in
       let f : ℕ → Kind T = λ t. κ in

@@ -8,7 +8,7 @@ use Rattle.fak_model.proofs.QueueBackwards.{item_at_new, item_at_old}
 use Rattle.fak_model.proofs.Seats.{begins_self}
 use Rattle.fak_queue.proofs.BurstNames.{begins_trans}
 use Rattle.fak_core.specs.QueueBlocks.{names_of, AreApart, all_at, marks_back}
-use Rattle.fak_queue.specs.Bursts.{Makes, tickets_of}
+use Rattle.fak_queue.specs.Bursts.{LeavesMarks, tickets_of}
 use Rattle.fak_queue.specs.Bundles.{IsLawful, MadeFrom}
 use Rattle.fak_queue.proofs.Common.{items_put, flat_map-append, QueueHolder, Kind, Mark, Phase, IsPost, mark, seat_of, made_by, marks_of, item_at, In, ◌≡◌, ◌≢◌, ℕ, ◌+◌, ◌<◌, ◌≤◌, ◌==◌, true, false, List, [], ◌∷◌, ◌++◌, length, reverse, refl, sym, ap, ◌∙◌, subst, inl, inr, arith, nat_tests, Some}
 
@@ -135,7 +135,7 @@ among {names = names} a own i n e = subst (In n) (sym own) (item_in names i n e)
 
 module _ {T : Type 0} {size seats : ℕ} {names : List ℕ} {lo f : ℕ} {kinds_at : ℕ → List (Kind T)} {m a c : QueueHolder T} (so : MadeFrom size seats names lo f kinds_at m a) (own : a.0.names ≡ names) (left : c.0.left ≡ a.0.left) where
   -- a step that leaves no mark
-  pub made_still : Makes size seats [] (a.0, []) (c.0, []) → MadeFrom size seats names lo f kinds_at m c
+  pub made_still : LeavesMarks size seats [] (a.0, []) (c.0, []) → MadeFrom size seats names lo f kinds_at m c
   made_still k =
       let same : (i n : ℕ) → item_at names i ≡ Some n → marks_of seat_of n (reverse c.0.seen) ≡ marks_of seat_of n (reverse a.0.seen) = λ i n e. k.mine n (among a own i n e) ∙ append-nil (marks_of seat_of n (reverse a.0.seen)) in
       record {
@@ -148,7 +148,7 @@ module _ {T : Type 0} {size seats : ℕ} {names : List ℕ} {lo f : ℕ} {kinds_
       }
 
   -- the next name makes its mark
-  pub made_next : AreApart names → (n : ℕ) (κ : Kind T) → item_at names f ≡ Some n → lo ≤ f → kinds_at f ≡ κ ∷ [] → Makes size seats (mark n κ ∷ []) (a.0, []) (c.0, []) → MadeFrom size seats names lo (suc f) kinds_at m c
+  pub made_next : AreApart names → (n : ℕ) (κ : Kind T) → item_at names f ≡ Some n → lo ≤ f → kinds_at f ≡ κ ∷ [] → LeavesMarks size seats (mark n κ ∷ []) (a.0, []) (c.0, []) → MadeFrom size seats names lo (suc f) kinds_at m c
   made_next apart n κ here low is k =
       let mine : (i t : ℕ) → item_at names i ≡ Some t → marks_of seat_of t (reverse c.0.seen) ≡ marks_of seat_of t (reverse a.0.seen) ++ marks_of seat_of t (mark n κ ∷ []) = λ i t e. k.mine t (among a own i t e) in
       let other : (i t : ℕ) → item_at names i ≡ Some t → i ≢ f → marks_of seat_of t (reverse c.0.seen) ≡ marks_of seat_of t (reverse a.0.seen) = λ i t e ne.

@@ -4,21 +4,21 @@ use Rattle.fak_model.specs.declared.queue.Kind.TheVariants as made
 use Rattle.fak_model.specs.Shown.{Leaves}
 use Rattle.fak_core.specs.declared.queue.phase.Phase.TheVariants.{TurnIn, StoreItem, EndInsert, TurnOut, LoadItem, EndDelete}
 use Rattle.fak_core.specs.QueueBlocks.{Posts}
-use Rattle.fak_queue.specs.Bursts.{Makes, TurnsBurst, FillsBurst, TurnsOutBurst, FreesBurst, post_to}
+use Rattle.fak_queue.specs.Bursts.{LeavesMarks, TurnsBurst, FillsCellInBurst, TurnsOutBurst, FreesBurst, post_to}
 use Rattle.fak_queue.specs.Bundles.{SaysOf, StepsOn, LooksAtIn, FillsIt, LooksAtOut, TakesIt}
 use Rattle.fak_queue.proofs.BurstPosts.{post_here, post_else}
 use Rattle.fak_queue.proofs.BurstNames.{makes_step}
-use Rattle.fak_queue.proofs.Common.{Standing, Each, IsPost, QueueView, QueueHolder, queue_object, mark, ◌≡◌, ℕ, ◌+◌, ◌*◌, ◌/◌, Bool, true, false, ◌==◌, List, [], ◌∷◌, ◌++◌, sym, ap, ◌∙◌, subst, arith, nat_tests, reverse, Option, Some, None, Has, item_at, items_put, Mark, Phase}
+use Rattle.fak_queue.proofs.Common.{Phases, Each, IsPost, QueueView, QueueHolder, queue_object, mark, ◌≡◌, ℕ, ◌+◌, ◌*◌, ◌/◌, Bool, true, false, ◌==◌, List, [], ◌∷◌, ◌++◌, sym, ap, ◌∙◌, subst, arith, nat_tests, reverse, Option, Some, None, Has, item_at, items_put, Mark, Phase}
 
 each_same : {T : Type 0} {a b : Posts T} → Some (Each a) ≡ Some (Each b) → a ≡ b
 each_same e = cc
 
 -- the same step without the slots
-erased : {T : Type 0} {size seats : ℕ} {m after : QueueHolder T} {new : List (Mark T)} {then : Standing T} {left : ℕ} {carried : List (ℕ × Option T)} {tells : List (Mark T) → Type 0} → Leaves (queue_object size seats) m new then left carried tells after
+erased : {T : Type 0} {size seats : ℕ} {m after : QueueHolder T} {new : List (Mark T)} {then : Phases T} {left : ℕ} {carried : List (ℕ × Option T)} {tells : List (Mark T) → Type 0} → Leaves (queue_object size seats) m new then left carried tells after
     → Leaves (queue_object size seats) (m.0, []) new then left [] tells (after.0, [])
 erased l = record { past = l.past; sees = l.sees; after_is = ap (λ (x : QueueHolder _). (x.0, [])) l.after_is; lawful = l.lawful; named = l.named; told = l.told }
 
-seen_now : {T : Type 0} {size seats : ℕ} {m after : QueueHolder T} {new : List (Mark T)} {then : Standing T} {left : ℕ} {carried : List (ℕ × Option T)} {tells : List (Mark T) → Type 0} (l : Leaves (queue_object size seats) m new then left carried tells after) → after.0.seen ≡ new ++ l.past
+seen_now : {T : Type 0} {size seats : ℕ} {m after : QueueHolder T} {new : List (Mark T)} {then : Phases T} {left : ℕ} {carried : List (ℕ × Option T)} {tells : List (Mark T) → Type 0} (l : Leaves (queue_object size seats) m new then left carried tells after) → after.0.seen ≡ new ++ l.past
 seen_now l = ap (λ (x : QueueHolder _). x.0.seen) l.after_is
 
 module _ {T : Type 0} {size seats n : ℕ} {q : Phase T} {m after : QueueHolder T} {new : List (Mark T)} {carried : List (ℕ × Option T)} {tells : List (Mark T) → Type 0} (all : Posts T) (says : m.0.phase ≡ Some (Each all)) (p : Phase T) (post : IsPost n p all)
@@ -53,7 +53,7 @@ module _ {T : Type 0} (size seats n k cell : ℕ) (x : T) (m mid after : QueueHo
   pub says_mid_in : SaysOf mid.0 n (StoreItem k x)
   says_mid_in = subst (λ (v : QueueView T). SaysOf v n (StoreItem k x)) (sym same_in) s
 
-  pub fills_it : FillsBurst size seats n mid after → FillsIt size seats n k m after
+  pub fills_it : FillsCellInBurst size seats n mid after → FillsIt size seats n k m after
   fills_it told =
       let t = says_mid_in in
       let none : rest mid.1 ≡ [] = ap (λ (y : QueueHolder T). rest y.1) exchanged ∙ ap rest slot in
@@ -63,7 +63,7 @@ module _ {T : Type 0} (size seats n k cell : ℕ) (x : T) (m mid after : QueueHo
         others = λ t w ne o. a.others t w ne (subst (λ (v : QueueView T). SaysOf v t w) (sym same_in) o);
         left = a.left ∙ ap (λ (v : QueueView T). v.left) same_in;
         carries = a.carries ∙ none;
-        makes = subst (λ (v : QueueView T). Makes size seats (mark n (made.Fill k) ∷ []) (v, []) (after.0, [])) same_in a.makes;
+        makes = subst (λ (v : QueueView T). LeavesMarks size seats (mark n (made.Fill k) ∷ []) (v, []) (after.0, [])) same_in a.makes;
       }
 
 -- ---- deletions
@@ -102,5 +102,5 @@ module _ {T : Type 0} (size seats n k cell : ℕ) (x : T) (m mid after : QueueHo
         others = λ t w ne o. a.others t w ne (subst (λ (v : QueueView T). SaysOf v t w) (sym same_out) o);
         left = a.left ∙ ap (λ (v : QueueView T). v.left) same_out;
         carries = a.carries ∙ none;
-        makes = subst (λ (v : QueueView T). Makes size seats (mark n (made.Take k) ∷ []) (v, []) (after.0, [])) same_out a.makes;
+        makes = subst (λ (v : QueueView T). LeavesMarks size seats (mark n (made.Take k) ∷ []) (v, []) (after.0, [])) same_out a.makes;
       }

@@ -1,8 +1,8 @@
 -- Each atomic step of a burst is one that the table's rule allows.
 use Rattle.fak_core.specs.declared.queue.phase.Phase.TheVariants.{Idle, AddUp, BackUp, TicketIn, TurnIn, StoreItem, SubLow, BackLow, TicketOut, TurnOut, LoadItem}
 use Rattle.fak_core.specs.QueueBlocks.{Posts, names_of, AreApart, all_at}
-use Rattle.fak_queue.specs.Bursts.{AllIn, AreDisjoint, AreIdle, Says, SaysAfter, TestedBurst, BackBurst, SubbedBurst, BackLowBurst, DrewOutBurst, TestedLowBurst, TurnedOutBurst, FreedBurst, TurnsOutBurst, FreesBurst, TurnedBurst, FilledBurst, TurnsBurst, FillsBurst, DrewBurst, AddedBurst}
-use Rattle.fak_queue.proofs.Common.{QueueHolder, IsPost, IsShownQueue, QueueLimits, ◌≡◌, ℕ, ◌+◌, ◌-◌, ◌%◌, ◌^◌, ◌≤◌, List, ◌∷◌, ◌++◌, length, slice_index, sym, ap, ◌∙◌, subst, arith, Option, Some, ◌*◌, ◌/◌, None, Standing, Alike, Each, some, get_elem?, In, Allows, carried_after}
+use Rattle.fak_queue.specs.Bursts.{AllIn, AreDisjoint, PostsAreIdle, Says, SaysAfter, TestedBurst, BackBurst, SubbedBurst, BackLowBurst, DrewOutBurst, TestedLowBurst, TurnedOutBurst, FreedBurst, TurnsOutBurst, FreesBurst, TurnedBurst, FilledBurst, TurnsBurst, FillsCellInBurst, DrewBurst, AddedBurst}
+use Rattle.fak_queue.proofs.Common.{QueueHolder, IsPost, IsShownQueue, QueueLimits, ◌≡◌, ℕ, ◌+◌, ◌-◌, ◌%◌, ◌^◌, ◌≤◌, List, ◌∷◌, ◌++◌, length, slice_index, sym, ap, ◌∙◌, subst, arith, Option, Some, ◌*◌, ◌/◌, None, Phases, Alike, Each, some, get_elem?, In, Allows, carried_after}
 use Rattle.fak_queue.proofs.Stepping.{QueueTable}
 use Rattle.fak_queue.proofs.BurstBlocks.{Permits}
 use Rattle.fak_queue.proofs.BurstInsertions.{adds_burst, backs_burst, draws_burst, tests_burst}
@@ -25,14 +25,14 @@ adds_burst_allowed {T} key slots seats id m few items others e once apart inn d 
     (q.0, q.1, q.2, q.3, subst (λ (z : ℕ × ℕ). AddedBurst z.0 z.1 items others m (slice_index s.words 16) (q.0, carried_after m.1 q.1)) (λ j. (size j, few j)) q.4)
 
 pub tests_burst_allowed : {T : Type 0} (key : QueueLimits) (slots seats id : ℕ) (m : QueueHolder T) → key.seats ≡ seats → (items : List (ℕ × T)) (others : Posts T) → m.0.phase ≡ Some (Alike Idle)
-    → AreApart (names_of items) → AreDisjoint (names_of items) (names_of others) → AllIn (names_of items ++ names_of others) m.0.names → AllIn m.0.names (names_of items ++ names_of others) → AreIdle others
+    → AreApart (names_of items) → AreDisjoint (names_of items) (names_of others) → AllIn (names_of items ++ names_of others) m.0.names → AllIn m.0.names (names_of items ++ names_of others) → PostsAreIdle others
     → Allows (IsShownQueue key) slots id m 16 (λ w. w) (TestedBurst slots seats items others m)
 tests_burst_allowed {T} key slots seats id m few items others e once apart inn whole idle s r wide at small =
     let size : key.size ≡ slots = sym r.encoded.wide ∙ wide in
     let q = tests_burst key s r id m at items others e once apart inn whole idle in
     (q.0, q.1, q.2, q.3, subst (λ (z : ℕ × ℕ). TestedBurst z.0 z.1 items others m (slice_index s.words 16) (q.0, carried_after m.1 q.1)) (λ j. (size j, few j)) q.4)
 
-pub backs_burst_allowed : {T : Type 0} (key : QueueLimits) (slots seats id : ℕ) (m : QueueHolder T) → key.seats ≡ seats → (items : List (ℕ × T)) (others : Posts T) → Says m.0 (all_at (λ x. BackUp x) items ++ others) → AreApart (names_of items) → AreDisjoint (names_of items) (names_of others) → AllIn (names_of items ++ names_of others) m.0.names → (then : Standing T) → SaysAfter m.0.names (all_at (λ x. Idle) items ++ others) then → (d : ℕ) → d ≡ length items → d ≤ 1024
+pub backs_burst_allowed : {T : Type 0} (key : QueueLimits) (slots seats id : ℕ) (m : QueueHolder T) → key.seats ≡ seats → (items : List (ℕ × T)) (others : Posts T) → Says m.0 (all_at (λ x. BackUp x) items ++ others) → AreApart (names_of items) → AreDisjoint (names_of items) (names_of others) → AllIn (names_of items ++ names_of others) m.0.names → (then : Phases T) → SaysAfter m.0.names (all_at (λ x. Idle) items ++ others) then → (d : ℕ) → d ≡ length items → d ≤ 1024
     → Allows (IsShownQueue key) slots id m 16 (λ w. (w + (2 ^ 64 - d)) % 2 ^ 64) (λ found after. BackBurst slots seats items others then m after)
 backs_burst_allowed {T} key slots seats id m few items others e once apart inn then says d d_is small' s r wide at small =
     let size : key.size ≡ slots = sym r.encoded.wide ∙ wide in
@@ -40,7 +40,7 @@ backs_burst_allowed {T} key slots seats id m few items others e once apart inn t
     (q.0, q.1, q.2, q.3, subst (λ (z : ℕ × ℕ). BackBurst z.0 z.1 items others then m (q.0, carried_after m.1 q.1)) (λ j. (size j, few j)) q.4)
 
 pub tests_low_burst_allowed : {T : Type 0} (key : QueueLimits) (slots seats id : ℕ) (m : QueueHolder T) → key.seats ≡ seats → (items : List (ℕ × Unit {0})) (others : Posts T) → m.0.phase ≡ Some (Alike Idle)
-    → AreApart (names_of items) → AreDisjoint (names_of items) (names_of others) → AllIn (names_of items ++ names_of others) m.0.names → AllIn m.0.names (names_of items ++ names_of others) → AreIdle others
+    → AreApart (names_of items) → AreDisjoint (names_of items) (names_of others) → AllIn (names_of items ++ names_of others) m.0.names → AllIn m.0.names (names_of items ++ names_of others) → PostsAreIdle others
     → Allows (IsShownQueue key) slots id m 32 (λ w. w) (TestedLowBurst slots seats items others m)
 tests_low_burst_allowed {T} key slots seats id m few items others e once apart inn whole idle s r wide at small =
     let size : key.size ≡ slots = sym r.encoded.wide ∙ wide in
@@ -64,7 +64,7 @@ draws_out_burst_allowed {T} key slots seats id m few items others e once apart i
     (q.0, q.1, q.2, q.3, subst (λ (z : ℕ × ℕ). DrewOutBurst z.0 z.1 items others m (slice_index s.words 64) (q.0, carried_after m.1 q.1)) (λ j. (size j, few j)) q.4)
 
 pub backs_low_burst_allowed : {T : Type 0} (key : QueueLimits) (slots seats id : ℕ) (m : QueueHolder T) → key.seats ≡ seats → (items : List (ℕ × Unit {0})) (others : Posts T) → Says m.0 (all_at (λ x. BackLow) items ++ others)
-    → AreApart (names_of items) → AreDisjoint (names_of items) (names_of others) → AllIn (names_of items ++ names_of others) m.0.names → (then : Standing T) → SaysAfter m.0.names (all_at (λ x. Idle) items ++ others) then → (d : ℕ) → d ≡ length items → d ≤ 1024
+    → AreApart (names_of items) → AreDisjoint (names_of items) (names_of others) → AllIn (names_of items ++ names_of others) m.0.names → (then : Phases T) → SaysAfter m.0.names (all_at (λ x. Idle) items ++ others) then → (d : ℕ) → d ≡ length items → d ≤ 1024
     → Allows (IsShownQueue key) slots id m 32 (λ w. (w + d) % 2 ^ 64) (λ found after. BackLowBurst slots seats items others then m after)
 backs_low_burst_allowed {T} key slots seats id m few items others e once apart inn then says d d_is small' s r wide at small =
     let size : key.size ≡ slots = sym r.encoded.wide ∙ wide in
@@ -99,8 +99,8 @@ module _ {T : Type 0} (key : QueueLimits) (slots seats id : ℕ) (m : QueueHolde
             subst (λ (z : ℕ × T × Posts T). TurnedBurst key.size key.seats n z.0 z.1 z.2 m (slice_index s.words (80 + k % key.size)) (t.0, carried_after m.1 t.1)) (λ c. (one.0 c, one.1 c, same c)) t.4,
       ))
 
-  pub fills_burst_allowed : (x : T) (v : ℕ) (tl : List (ℕ × Option T)) → IsPost n (StoreItem k x) all → m.1 ≡ (k % slots, Some x) ∷ tl → v ≡ 2 * (k / slots) + 1 → Allows (IsShownQueue key) slots id m i (λ _. v) (λ found after. FillsBurst slots seats n m after)
-  fills_burst_allowed x v tl post held v_is = at_cell (λ _. v) (λ z q found after. FillsBurst z q n m after) (λ s r at size.
+  pub fills_burst_allowed : (x : T) (v : ℕ) (tl : List (ℕ × Option T)) → IsPost n (StoreItem k x) all → m.1 ≡ (k % slots, Some x) ∷ tl → v ≡ 2 * (k / slots) + 1 → Allows (IsShownQueue key) slots id m i (λ _. v) (λ found after. FillsCellInBurst slots seats n m after)
+  fills_burst_allowed x v tl post held v_is = at_cell (λ _. v) (λ z q found after. FillsCellInBurst z q n m after) (λ s r at size.
       let t = fills_burst key s r id m at n is_mine all says k x v tl post (held ∙ ap (λ z. (k % z, Some x) ∷ tl) (sym size)) (v_is ∙ ap (λ z. 2 * (k / z) + 1) (sym size)) in (
         t.0,
         t.1,

@@ -7,7 +7,7 @@ use Rattle.fak_core.specs.QueueBlocks.{Posts, names_of, AreApart, Stand, block, 
 use Rattle.fak_queue.proofs.ReachedFrom.{reached_block}
 use Rattle.fak_core.proofs.QueueBlocks.{names-at, stand_on, stand_both}
 use Rattle.fak_queue.specs.Bursts.{AllIn, AreDisjoint, Says, SaysAfter, TellsLower}
-use Rattle.fak_queue.proofs.Common.{IsReachedFrom, from_itself, reached_after, sleepers_after, StandsIn, QueueView, QueueHolder, IsPost, queue_object, IsShownQueue, QueueLimits, AreWords, IsEncoded, ◌≡◌, ℕ, ◌+◌, ◌-◌, ◌%◌, ◌^◌, ◌<◌, ◌≤◌, List, [], ◌∷◌, ◌++◌, slice_index, set, refl, sym, ap, ◌∙◌, subst, inl, inr, arith, Option, Some, Bool, ℤ, pos, ◌+ℤ◌, ints, bias, shut_part, upper_raise, upper_drop, upper_range, lower_raise, lower_drop, lower_range, ◌-ℤ◌, Standing, Each, some, get_elem?, count, In, Act, keeps, stepped, carried_after, Valid, Mark, total_at, Phase, QueueState, InCell, IsKept, kept}
+use Rattle.fak_queue.proofs.Common.{IsReachedFrom, from_itself, reached_after, sleepers_after, StandsIn, QueueView, QueueHolder, IsPost, queue_object, IsShownQueue, QueueLimits, AreWords, IsEncoded, ◌≡◌, ℕ, ◌+◌, ◌-◌, ◌%◌, ◌^◌, ◌<◌, ◌≤◌, List, [], ◌∷◌, ◌++◌, slice_index, set, refl, sym, ap, ◌∙◌, subst, inl, inr, arith, Option, Some, Bool, ℤ, pos, ◌+ℤ◌, ints, bias, shut_part, upper_raise, upper_drop, upper_range, lower_raise, lower_drop, lower_range, ◌-ℤ◌, Phases, Each, some, get_elem?, count, In, Act, keeps, stepped, carried_after, Valid, Mark, total_at, Phase, QueueState, InCell, IsKept, kept}
 use Rattle.fak_queue.proofs.WordWrites.{shut_part-small, words_upper, words_lower}
 use Rattle.fak_queue.proofs.Stepping.{QueueTable, queue_law, stands_else, below_of, lower_count-reverse}
 use Rattle.fak_queue.proofs.BurstPosts.{AreOut, all_left, all_right, in_all, nowhere, out_at, post_left, post_right, says_of}
@@ -34,7 +34,7 @@ module _ {T : Type 0} (key : QueueLimits) (s : QueueTable T) (r : IsShownQueue k
   pub wide_block : (was now : Posts T) → names_of was ≡ names_of now → AllIn (names_of now) m.0.names → Stand r.core was → AreOut key.size was → AreOut key.size now
       → (c : QueueState T) (new : List (Mark T)) (u l : ℤ) (i d : ℕ) → IsReachedFrom key.seats key.size r.core c → Changes r.core c new u l i d now → AreAmong (λ (x : Mark T). x.seat) m.0.names new
       → (j : ℕ) → (16 ≤ j) × (j < 80 + key.size) → (w : ℕ) → AreWords key.size u l i d r.core.turn r.core.shut (set s.words j w) → (left : ℕ) → i + d + left ≤ r.core.draws_in + r.core.draws_out + m.0.left
-      → (then : Standing T) → ((n : ℕ) → In n m.0.names → StandsIn c n then) → (tells : List (Mark T) → Type 0) → tells r.core.past
+      → (then : Phases T) → ((n : ℕ) → In n m.0.names → StandsIn c n then) → (tells : List (Mark T) → Type 0) → tells r.core.past
       → let v = sees m.0.names m.0.noted (new ++ r.core.past) then left in
       IsShownQueue key (stepped s j w id m.1 v keeps) × Leaves (queue_object key.size key.seats) m new then left m.1 tells (v, m.1)
   wide_block was now names inn stood out_was out_now c new u l i d reached x own j fit w words left few then says tells told =
@@ -65,7 +65,7 @@ module _ {T : Type 0} (key : QueueLimits) (s : QueueTable T) (r : IsShownQueue k
   pub quiet_block : (was now rest : Posts T) → names_of was ≡ names_of now → AreDisjoint (names_of now) (names_of rest) → AllIn (names_of now) m.0.names → Stand r.core was → Stand r.core rest → AreOut key.size was → AreOut key.size now
       → (c : QueueState T) (new : List (Mark T)) (u l : ℤ) (i d : ℕ) → IsReachedFrom key.seats key.size r.core c → Changes r.core c new u l i d now → AreAmong (λ (x : Mark T). x.seat) m.0.names new
       → (j : ℕ) → (16 ≤ j) × (j < 80 + key.size) → (w : ℕ) → AreWords key.size u l i d r.core.turn r.core.shut (set s.words j w) → (left : ℕ) → i + d + left ≤ r.core.draws_in + r.core.draws_out + m.0.left
-      → (then : Standing T) → SaysAfter m.0.names (now ++ rest) then → (tells : List (Mark T) → Type 0) → tells r.core.past
+      → (then : Phases T) → SaysAfter m.0.names (now ++ rest) then → (tells : List (Mark T) → Type 0) → tells r.core.past
       → let v = sees m.0.names m.0.noted (new ++ r.core.past) then left in
       IsShownQueue key (stepped s j w id m.1 v keeps) × Leaves (queue_object key.size key.seats) m new then left m.1 tells (v, m.1)
   quiet_block was now rest names apart inn stood stay out_was out_now c new u l i d reached x own j fit w words left few then says tells told =
@@ -124,7 +124,7 @@ module _ {T : Type 0} (key : QueueLimits) (s : QueueTable T) (r : IsShownQueue k
 
     pub wide_step : (g : B → Phase T) → ((x : B) (i : ℕ) → InCell key.size (f x) i → ⊥) → ((x : B) (i : ℕ) → InCell key.size (g x) i → ⊥) → (new : List (Mark T)) → AreAmong (λ (x : Mark T). x.seat) m.0.names new → (u l : ℤ) (i d : ℕ)
         → Changes r.core (block key.size r.core (all_at f items)) new u l i d (all_at g items) → (j : ℕ) → (16 ≤ j) × (j < 80 + key.size) → (w : ℕ) → AreWords key.size u l i d r.core.turn r.core.shut (set s.words j w) → (left : ℕ) → i + d + left ≤ r.core.draws_in + r.core.draws_out + m.0.left
-        → (then : Standing T) → SaysAfter m.0.names (all_at g items ++ others) then → (tells : List (Mark T) → Type 0) → tells r.core.past
+        → (then : Phases T) → SaysAfter m.0.names (all_at g items ++ others) then → (tells : List (Mark T) → Type 0) → tells r.core.past
         → let v = sees m.0.names m.0.noted (new ++ r.core.past) then left in IsShownQueue key (stepped s j w id m.1 v keeps) × Leaves (queue_object key.size key.seats) m new then left m.1 tells (v, m.1)
     wide_step g out out' new own u l i d x j fit w words left few then says tells told =
         let same = names-at g items in

@@ -9,7 +9,7 @@ use Rattle.fak_core.specs.declared.queue.phase.Phase.TheVariants.{Idle, AddUp, B
 use Rattle.fak_core.specs.QueueBlocks.{names_of, AreApart, all_at, marks_back}
 use Rattle.fak_core.proofs.QueueBlocks.{names-append, names-at}
 use Rattle.fak_queue.specs.declared.found.NoRoom.{NoRoom}
-use Rattle.fak_queue.specs.Bursts.{AllIn, AreDisjoint, AreIdle, Says, SaysAfter, StandAfter, Makes, TestedBurst, AddedBurst, AddedSome, TellsUpper, DrewBurst, ClaimedBurst, RoomBurst, NoneBurst, RefusedBurst, granted_of, BackBurst, pair_up, idle_posts, claims_at}
+use Rattle.fak_queue.specs.Bursts.{AllIn, AreDisjoint, PostsAreIdle, Says, SaysAfter, StandAfter, LeavesMarks, TestedBurst, AddedBurst, AddedSome, TellsUpper, DrewBurst, ClaimedBurst, RoomBurst, NoneBurst, RefusedBurst, granted_of, BackBurst, pair_up, idle_posts, claims_at}
 use Rattle.fak_queue.proofs.BurstPosts.{idle_all, idle_both}
 use Rattle.fak_queue.proofs.Common.{QueueHolder, queue_object, Alike, Each, IsUpperCount, Ok, Err, Full, Shut, upper_count, bias, ints, common_steps, le_or_lt, ℤ, pos, ◌+ℤ◌, ◌<◌, ◌^◌, ◌≡◌, ◌⊎◌, ℕ, ◌+◌, ◌-◌, ◌≤◌, List, [], ◌++◌, length, refl, sym, ap, ◌∙◌, subst, inl, inr, arith, reverse, In, Mark}
 use Rattle.fak_queue.proofs.BurstNames.{own_past, own_past_first, stands_now, stands_more, idle_rest, all_of, post_swap, says_swap, whole, once, from_rest, in_zs, in_rest, once_granted, in_granted, in_over, not_both, makes_step, makes_then, makes_then_first, pair_length, none_over}
@@ -25,8 +25,8 @@ module _ {T : Type 0} (size seats : ℕ) (ns : List ℕ) (xs : List T) (m after 
       (let all = all_at (λ x. Idle) (drop i (pair_up ns xs)) ++ (all_at (λ x. TicketIn x) (take i (pair_up ns xs)) ++ idle_posts (drop (length xs) ns)) in
       (all, ap (λ (x : QueueHolder T). x.0.phase) l.after_is, λ n p k. post_swap (all_at (λ x. TicketIn x) (take i (pair_up ns xs))) (all_at (λ x. Idle) (drop i (pair_up ns xs))) (idle_posts (drop (length xs) ns)) n p k))
 
-  pub backed_makes : (i j : ℕ) → i ≡ j → Backed i → Makes size seats (marks_back (λ x. made.BackIn) (drop j (pair_up ns xs))) m after
-  backed_makes i j is l = subst (λ k. Makes size seats (marks_back (λ x. made.BackIn) (drop k (pair_up ns xs))) m after) is (makes_step l)
+  pub backed_makes : (i j : ℕ) → i ≡ j → Backed i → LeavesMarks size seats (marks_back (λ x. made.BackIn) (drop j (pair_up ns xs))) m after
+  backed_makes i j is l = subst (λ k. LeavesMarks size seats (marks_back (λ x. made.BackIn) (drop k (pair_up ns xs))) m after) is (makes_step l)
 
 module _ {T : Type 0} (ns : List ℕ) (xs : List T) (m : QueueHolder T) where
   pub backed_from : (i j : ℕ) → i ≡ j → Says m.0 (claims_at (λ x. BackUp x) ns xs j)
@@ -60,7 +60,7 @@ module _ {T : Type 0} (size seats : ℕ) (ns : List ℕ) (xs : List T) (apart : 
       × AllIn (names_of (pair_up ns xs) ++ names_of (idle_posts {T = T} (drop (length xs) ns))) m0.0.names × AllIn m0.0.names (names_of (pair_up ns xs) ++ names_of (idle_posts {T = T} (drop (length xs) ns)))
   test_names = (once T ns xs apart fit, from_rest T ns xs apart fit, all_in m0.0.names own, in_all)
 
-  pub test_rest : AreIdle (idle_posts {T = T} (drop (length xs) ns))
+  pub test_rest : PostsAreIdle (idle_posts {T = T} (drop (length xs) ns))
   test_rest = idle_rest T (drop (length xs) ns)
 
   module _ (f : ℕ) (m1 : QueueHolder T) (tested : TestedBurst size seats (pair_up ns xs) (idle_posts (drop (length xs) ns)) m0 f m1) where
@@ -156,11 +156,11 @@ module _ {T : Type 0} (size seats : ℕ) (ns : List ℕ) (xs : List T) (apart : 
               let c = idle_posts (drop (length xs) ns) in
               subst (λ l. Says m2.0 l) (append_assoc a b c) ((a ++ b) ++ c, ap (λ (x : QueueHolder T). x.0.phase) some_added.after_is, λ n p i. i)
 
-          before_back : Makes size seats (marks_back (λ x. made.OverIn) (drop j (pair_up ns xs)) ++ marks_back (λ x. made.ClaimIn) (take j (pair_up ns xs))) m0 m2
+          before_back : LeavesMarks size seats (marks_back (λ x. made.OverIn) (drop j (pair_up ns xs)) ++ marks_back (λ x. made.ClaimIn) (take j (pair_up ns xs))) m0 m2
           before_back = makes_then_first (makes_step first) (makes_step some_added)
 
           pub claims_room : 0 < length xs → (m3 : QueueHolder T) → Says m3.0 (claims_at (λ x. Idle) ns xs j) → m3.0.left ≡ m2.0.left → (j ≡ length xs → m3 ≡ m2)
-              → (j < length xs → Makes size seats (marks_back (λ x. made.BackIn) (drop j (pair_up ns xs))) m2 m3) → RoomBurst size seats ns xs j m0 m3
+              → (j < length xs → LeavesMarks size seats (marks_back (λ x. made.BackIn) (drop j (pair_up ns xs))) m2 m3) → RoomBurst size seats ns xs j m0 m3
           claims_room some m3 says left all back =
               let g = some_granted size v (length xs) found some in
               let most : j ≤ length xs = omega (arith, j_is, g.1) in
@@ -173,8 +173,8 @@ module _ {T : Type 0} (size seats : ℕ) (ns : List ℕ) (xs : List T) (apart : 
                   | inl full ↦ (
                       let over = none_over ns xs fit j full in
                       let same : m3 ≡ m2 = all (omega (arith, full, most)) in
-                      subst (λ l. Makes size seats (marks_back (λ x. made.BackIn) l ++ (marks_back (λ x. made.OverIn) (drop j (pair_up ns xs)) ++ marks_back (λ x. made.ClaimIn) (take j (pair_up ns xs)))) m0 m3) (sym over)
-                      (subst (λ (w : QueueHolder T). Makes size seats (marks_back (λ x. made.OverIn) (drop j (pair_up ns xs)) ++ marks_back (λ x. made.ClaimIn) (take j (pair_up ns xs))) m0 w) (sym same) before_back))
+                      subst (λ l. LeavesMarks size seats (marks_back (λ x. made.BackIn) l ++ (marks_back (λ x. made.OverIn) (drop j (pair_up ns xs)) ++ marks_back (λ x. made.ClaimIn) (take j (pair_up ns xs)))) m0 m3) (sym over)
+                      (subst (λ (w : QueueHolder T). LeavesMarks size seats (marks_back (λ x. made.OverIn) (drop j (pair_up ns xs)) ++ marks_back (λ x. made.ClaimIn) (take j (pair_up ns xs))) m0 w) (sym same) before_back))
                   | inr part ↦ makes_then before_back (back part)
                 ];
                 found = v;

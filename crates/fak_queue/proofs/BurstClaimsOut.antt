@@ -7,7 +7,7 @@ use Rattle.fak_model.proofs.Seats.{in_either}
 use Rattle.fak_core.specs.declared.queue.phase.Phase.TheVariants.{Idle, SubLow, BackLow, TicketOut}
 use Rattle.fak_core.specs.QueueBlocks.{names_of, AreApart, all_at, marks_back}
 use Rattle.fak_core.proofs.QueueBlocks.{names-append, names-at}
-use Rattle.fak_queue.specs.Bursts.{AllIn, AreDisjoint, AreIdle, Says, SaysAfter, StandAfter, Makes, TestedLowBurst, SubbedBurst, SubbedSome, TellsLower, DrewOutBurst, ClaimedOutBurst, StockBurst, NoneBurst, RefusedOutBurst, granted_low, BackLowBurst, pair_up, idle_posts, claims_out_at}
+use Rattle.fak_queue.specs.Bursts.{AllIn, AreDisjoint, PostsAreIdle, Says, SaysAfter, StandAfter, LeavesMarks, TestedLowBurst, SubbedBurst, SubbedSome, TellsLower, DrewOutBurst, ClaimedOutBurst, StockBurst, NoneBurst, RefusedOutBurst, granted_low, BackLowBurst, pair_up, idle_posts, claims_out_at}
 use Rattle.fak_queue.proofs.BurstPosts.{idle_all, idle_both}
 use Rattle.fak_queue.proofs.Common.{QueueHolder, queue_object, Alike, Each, IsLowerCount, Ok, Err, lower_count, bias, ints, common_steps, le_or_lt, ℤ, pos, ◌+ℤ◌, ◌<◌, ◌^◌, ◌≡◌, ◌⊎◌, ℕ, ◌+◌, ◌-◌, ◌≤◌, List, [], ◌++◌, length, refl, sym, ap, ◌∙◌, subst, inl, inr, arith, reverse, In, Mark}
 use Rattle.fak_queue.proofs.BurstNames.{own_past, own_past_first, stands_now, stands_more, idle_rest, all_of, post_swap, says_swap, whole, once, from_rest, in_zs, in_rest, once_granted, in_granted, in_over, not_both, makes_step, makes_then, makes_then_first, pair_length, none_over}
@@ -23,8 +23,8 @@ module _ {T : Type 0} (size seats : ℕ) (ns : List ℕ) (us : List (Unit {0})) 
       (let all = all_at (λ x. Idle) (drop i (pair_up ns us)) ++ (all_at (λ x. TicketOut) (take i (pair_up ns us)) ++ idle_posts (drop (length us) ns)) in
       (all, ap (λ (x : QueueHolder T). x.0.phase) l.after_is, λ n p k. post_swap (all_at (λ x. TicketOut) (take i (pair_up ns us))) (all_at (λ x. Idle) (drop i (pair_up ns us))) (idle_posts (drop (length us) ns)) n p k))
 
-  pub backed_makes : (i j : ℕ) → i ≡ j → Backed i → Makes size seats (marks_back (λ x. made.BackOut) (drop j (pair_up ns us))) m after
-  backed_makes i j is l = subst (λ k. Makes size seats (marks_back (λ x. made.BackOut) (drop k (pair_up ns us))) m after) is (makes_step l)
+  pub backed_makes : (i j : ℕ) → i ≡ j → Backed i → LeavesMarks size seats (marks_back (λ x. made.BackOut) (drop j (pair_up ns us))) m after
+  backed_makes i j is l = subst (λ k. LeavesMarks size seats (marks_back (λ x. made.BackOut) (drop k (pair_up ns us))) m after) is (makes_step l)
 
 module _ {T : Type 0} (ns : List ℕ) (us : List (Unit {0})) (m : QueueHolder T) where
   pub backed_from : (i j : ℕ) → i ≡ j → Says m.0 (claims_out_at BackLow ns us j)
@@ -58,7 +58,7 @@ module _ {T : Type 0} (size seats : ℕ) (ns : List ℕ) (us : List (Unit {0})) 
       × AllIn (names_of (pair_up ns us) ++ names_of (idle_posts {T = T} (drop (length us) ns))) m0.0.names × AllIn m0.0.names (names_of (pair_up ns us) ++ names_of (idle_posts {T = T} (drop (length us) ns)))
   test_names = (once T ns us apart fit, from_rest T ns us apart fit, all_in m0.0.names own, in_all)
 
-  pub test_rest : AreIdle (idle_posts {T = T} (drop (length us) ns))
+  pub test_rest : PostsAreIdle (idle_posts {T = T} (drop (length us) ns))
   test_rest = idle_rest T (drop (length us) ns)
 
   module _ (f : ℕ) (m1 : QueueHolder T) (tested : TestedLowBurst size seats (pair_up ns us) (idle_posts (drop (length us) ns)) m0 f m1) where
@@ -150,11 +150,11 @@ module _ {T : Type 0} (size seats : ℕ) (ns : List ℕ) (us : List (Unit {0})) 
               let c = idle_posts (drop (length us) ns) in
               subst (λ l. Says m2.0 l) (append_assoc a b c) ((a ++ b) ++ c, ap (λ (x : QueueHolder T). x.0.phase) some_added.after_is, λ n p i. i)
 
-          before_back : Makes size seats (marks_back (λ x. made.OverOut) (drop j (pair_up ns us)) ++ marks_back (λ x. made.ClaimOut) (take j (pair_up ns us))) m0 m2
+          before_back : LeavesMarks size seats (marks_back (λ x. made.OverOut) (drop j (pair_up ns us)) ++ marks_back (λ x. made.ClaimOut) (take j (pair_up ns us))) m0 m2
           before_back = makes_then_first (makes_step first) (makes_step some_added)
 
           pub claims_stock : 0 < length us → (m3 : QueueHolder T) → Says m3.0 (claims_out_at Idle ns us j) → m3.0.left ≡ m2.0.left → (j ≡ length us → m3 ≡ m2)
-              → (j < length us → Makes size seats (marks_back (λ x. made.BackOut) (drop j (pair_up ns us))) m2 m3) → StockBurst size seats ns us j m0 m3
+              → (j < length us → LeavesMarks size seats (marks_back (λ x. made.BackOut) (drop j (pair_up ns us))) m2 m3) → StockBurst size seats ns us j m0 m3
           claims_stock some m3 says left all back =
               let g = some_granted v (length us) found some in
               let most : j ≤ length us = omega (arith, j_is, g.1) in
@@ -167,8 +167,8 @@ module _ {T : Type 0} (size seats : ℕ) (ns : List ℕ) (us : List (Unit {0})) 
                   | inl full ↦ (
                       let over = none_over ns us fit j full in
                       let same : m3 ≡ m2 = all (omega (arith, full, most)) in
-                      subst (λ l. Makes size seats (marks_back (λ x. made.BackOut) l ++ (marks_back (λ x. made.OverOut) (drop j (pair_up ns us)) ++ marks_back (λ x. made.ClaimOut) (take j (pair_up ns us)))) m0 m3) (sym over)
-                      (subst (λ (w : QueueHolder T). Makes size seats (marks_back (λ x. made.OverOut) (drop j (pair_up ns us)) ++ marks_back (λ x. made.ClaimOut) (take j (pair_up ns us))) m0 w) (sym same) before_back))
+                      subst (λ l. LeavesMarks size seats (marks_back (λ x. made.BackOut) l ++ (marks_back (λ x. made.OverOut) (drop j (pair_up ns us)) ++ marks_back (λ x. made.ClaimOut) (take j (pair_up ns us)))) m0 m3) (sym over)
+                      (subst (λ (w : QueueHolder T). LeavesMarks size seats (marks_back (λ x. made.OverOut) (drop j (pair_up ns us)) ++ marks_back (λ x. made.ClaimOut) (take j (pair_up ns us))) m0 w) (sym same) before_back))
                   | inr part ↦ makes_then before_back (back part)
                 ];
                 found = v;

@@ -8,8 +8,8 @@ use Rattle.fak_core.specs.QueueBlocks.{Posts, names_of, AreApart, Stand, block, 
 use Rattle.fak_queue.proofs.ReachedFrom.{reached_block, reached_tests_low}
 use Rattle.fak_core.proofs.QueueBlocks.{names-turns_out, names-at, names-append}
 use Rattle.fak_core.proofs.DeletionBlocks.{tests_stock, tests_empty, subs, backs_low, draws_out}
-use Rattle.fak_queue.specs.Bursts.{AllIn, AreDisjoint, AreIdle, Says, SaysAfter, granted_low, TellsLower, SubbedBurst, BackLowBurst, DrewOutBurst, TestedLowBurst}
-use Rattle.fak_queue.proofs.Common.{from_itself, QueueHolder, queue_object, IsShownQueue, QueueLimits, AreWords, ◌≡◌, ℕ, ◌+◌, ◌-◌, ◌%◌, ◌^◌, ◌≤◌, List, [], ◌∷◌, ◌++◌, length, slice_index, set, refl, sym, ap, ◌∙◌, subst, inl, inr, arith, Some, pos, ◌+ℤ◌, mod-eq_of_lt, reverse, true_or_false, int_lt, ◌-ℤ◌, Standing, Alike, Each, some, get_elem?, count, gots, count_reverse, keeps, stepped, Mark, Phase, InCell}
+use Rattle.fak_queue.specs.Bursts.{AllIn, AreDisjoint, PostsAreIdle, Says, SaysAfter, granted_low, TellsLower, SubbedBurst, BackLowBurst, DrewOutBurst, TestedLowBurst}
+use Rattle.fak_queue.proofs.Common.{from_itself, QueueHolder, queue_object, IsShownQueue, QueueLimits, AreWords, ◌≡◌, ℕ, ◌+◌, ◌-◌, ◌%◌, ◌^◌, ◌≤◌, List, [], ◌∷◌, ◌++◌, length, slice_index, set, refl, sym, ap, ◌∙◌, subst, inl, inr, arith, Some, pos, ◌+ℤ◌, mod-eq_of_lt, reverse, true_or_false, int_lt, ◌-ℤ◌, Phases, Alike, Each, some, get_elem?, count, gots, count_reverse, keeps, stepped, Mark, Phase, InCell}
 use Rattle.std.specs.Prelude.{take, drop}
 use Rattle.std.proofs.lemmas.List.{take-append-drop}
 use Rattle.fak_queue.proofs.WordWrites.{words_same, positive_word, empty_word, words_draws_out}
@@ -20,7 +20,7 @@ use Rattle.fak_queue.proofs.BurstBlocks.{lows, K, Permits, few_draws, lower_less
 
 module _ {T : Type 0} (key : QueueLimits) (s : QueueTable T) (r : IsShownQueue key s) (id : ℕ) (m : QueueHolder T) (at : get_elem? s.views id ≡ some m.0) where
   pub backs_low_burst : (items : List (ℕ × Unit {0})) (others : Posts T) → Says m.0 (all_at (λ x. BackLow) items ++ others) → AreApart (names_of items) → AreDisjoint (names_of items) (names_of others) → AllIn (names_of items ++ names_of others) m.0.names
-      → (then : Standing T) → SaysAfter m.0.names (all_at (λ x. Idle) items ++ others) then → (d : ℕ) → d ≡ length items → d ≤ 1024 → Permits key s r id m at 32 (λ w. (w + d) % 2 ^ 64) (λ found after. BackLowBurst key.size key.seats items others then m after)
+      → (then : Phases T) → SaysAfter m.0.names (all_at (λ x. Idle) items ++ others) then → (d : ℕ) → d ≡ length items → d ≤ 1024 → Permits key s r id m at 32 (λ w. (w + d) % 2 ^ 64) (λ found after. BackLowBurst key.size key.seats items others then m after)
   backs_low_burst items others e once apart inn then says d d_is small =
       let w = slice_index s.words 32 in
       let words = subst (λ k. AreWords key.size r.core.upper (r.core.lower +ℤ pos k) r.core.draws_in r.core.draws_out r.core.turn r.core.shut (set s.words 32 ((w + d) % 2 ^ 64))) d_is (lower_more key s r id m at d small) in
@@ -97,13 +97,13 @@ module _ {T : Type 0} (key : QueueLimits) (s : QueueTable T) (r : IsShownQueue k
         (block key.size r.core was) new r.core.upper (r.core.lower -ℤ pos (length items)) r.core.draws_in r.core.draws_out reached x own 32 (omega arith, omega arith) ((w + (2 ^ 64 - d)) % 2 ^ 64) words m.0.left (omega arith) then (inl refl) (TellsLower w) (lower_tells key s r id m at) in
         (sees m.0.names m.0.noted (new ++ r.core.past) then m.0.left, keeps, tt, q.0, q.1)
 
-  module _ (items : List (ℕ × Unit {0})) (others : Posts T) (e : m.0.phase ≡ Some (Alike Idle)) (once : AreApart (names_of items)) (apart : AreDisjoint (names_of items) (names_of others)) (inn : AllIn (names_of items ++ names_of others) m.0.names) (whole : AllIn m.0.names (names_of items ++ names_of others)) (idle : AreIdle others) where
-    all_rest : (ps : Posts T) → AreIdle ps → AllIn (names_of ps) m.0.names → Stand r.core ps
+  module _ (items : List (ℕ × Unit {0})) (others : Posts T) (e : m.0.phase ≡ Some (Alike Idle)) (once : AreApart (names_of items)) (apart : AreDisjoint (names_of items) (names_of others)) (inn : AllIn (names_of items ++ names_of others) m.0.names) (whole : AllIn m.0.names (names_of items ++ names_of others)) (idle : PostsAreIdle others) where
+    all_rest : (ps : Posts T) → PostsAreIdle ps → AllIn (names_of ps) m.0.names → Stand r.core ps
     all_rest [] idle inn = tt
     all_rest (q ∷ ps) idle inn = (r.stands id m.0 at q.0 inn.0 (Alike Idle) e ∙ sym idle.0, all_rest ps idle.1 inn.1)
 
     tested_low_so : (g : Unit {0} → Phase T) → ((x : Unit {0}) (i : ℕ) → InCell key.size (g x) i → ⊥) → (new : List (Mark T)) → AreAmong (λ (x : Mark T). x.seat) m.0.names new
-        → Changes r.core (tested_low key.size r.core items) new r.core.upper r.core.lower r.core.draws_in r.core.draws_out (all_at g items) → (then : Standing T) → SaysAfter m.0.names (all_at g items ++ others) then
+        → Changes r.core (tested_low key.size r.core items) new r.core.upper r.core.lower r.core.draws_in r.core.draws_out (all_at g items) → (then : Phases T) → SaysAfter m.0.names (all_at g items ++ others) then
         → let v = sees m.0.names m.0.noted (new ++ r.core.past) then m.0.left in IsShownQueue key (stepped s 32 (slice_index s.words 32) id m.1 v keeps) × Leaves (queue_object key.size key.seats) m new then m.0.left m.1 (TellsLower (slice_index s.words 32)) (v, m.1)
     tested_low_so g out new own x then says =
         let was = all_at {A = T} (λ (x : Unit {0}). Idle) items in

@@ -8,8 +8,8 @@ use Rattle.fak_core.specs.QueueBlocks.{Posts, names_of, AreApart, Stand, all_at,
 use Rattle.fak_queue.proofs.ReachedFrom.{reached_block, reached_tests}
 use Rattle.fak_core.proofs.QueueBlocks.{names-at, names-turns, names-append}
 use Rattle.fak_core.proofs.InsertionBlocks.{tests_room, tests_full, tests_shut, adds, adds_late, draws, backs}
-use Rattle.fak_queue.specs.Bursts.{AllIn, AreDisjoint, AreIdle, Says, SaysAfter, TestedBurst, BackBurst, DrewBurst, granted_of, TellsUpper, AddedBurst}
-use Rattle.fak_queue.proofs.Common.{from_itself, QueueHolder, queue_object, IsShownQueue, QueueLimits, AreWords, ◌≡◌, ℕ, ◌+◌, ◌-◌, ◌%◌, ◌^◌, ◌≤◌, List, [], ◌∷◌, ◌++◌, length, slice_index, set, refl, sym, ap, ◌∙◌, subst, inl, inr, arith, Some, pos, ◌+ℤ◌, bias, shut_part, mod-eq_of_lt, reverse, true, false, true_or_false, int_lt, ◌-ℤ◌, Standing, Alike, Each, some, get_elem?, count, puts, count_reverse, keeps, stepped, Mark, Phase, InCell}
+use Rattle.fak_queue.specs.Bursts.{AllIn, AreDisjoint, PostsAreIdle, Says, SaysAfter, TestedBurst, BackBurst, DrewBurst, granted_of, TellsUpper, AddedBurst}
+use Rattle.fak_queue.proofs.Common.{from_itself, QueueHolder, queue_object, IsShownQueue, QueueLimits, AreWords, ◌≡◌, ℕ, ◌+◌, ◌-◌, ◌%◌, ◌^◌, ◌≤◌, List, [], ◌∷◌, ◌++◌, length, slice_index, set, refl, sym, ap, ◌∙◌, subst, inl, inr, arith, Some, pos, ◌+ℤ◌, bias, shut_part, mod-eq_of_lt, reverse, true, false, true_or_false, int_lt, ◌-ℤ◌, Phases, Alike, Each, some, get_elem?, count, puts, count_reverse, keeps, stepped, Mark, Phase, InCell}
 use Rattle.std.specs.Prelude.{take, drop}
 use Rattle.std.proofs.lemmas.List.{take-append-drop}
 use Rattle.fak_queue.proofs.WordWrites.{shut_part-small, shut_above, open_below, below_word, full_word, words_same, words_draws_in, words_upper}
@@ -109,7 +109,7 @@ module _ {T : Type 0} (key : QueueLimits) (s : QueueTable T) (r : IsShownQueue k
     adds_burst = elim (true_or_false r.core.shut) [ inl shut ↦ added_late shut | inr opn ↦ added_some opn ]
 
   pub backs_burst : (items : List (ℕ × T)) (others : Posts T) → Says m.0 (all_at (λ x. BackUp x) items ++ others) → AreApart (names_of items) → AreDisjoint (names_of items) (names_of others) → AllIn (names_of items ++ names_of others) m.0.names
-      → (then : Standing T) → SaysAfter m.0.names (all_at (λ x. Idle) items ++ others) then → (d : ℕ) → d ≡ length items → d ≤ 1024 → Permits key s r id m at 16 (λ w. (w + (2 ^ 64 - d)) % 2 ^ 64) (λ found after. BackBurst key.size key.seats items others then m after)
+      → (then : Phases T) → SaysAfter m.0.names (all_at (λ x. Idle) items ++ others) then → (d : ℕ) → d ≡ length items → d ≤ 1024 → Permits key s r id m at 16 (λ w. (w + (2 ^ 64 - d)) % 2 ^ 64) (λ found after. BackBurst key.size key.seats items others then m after)
   backs_burst items others e once apart inn then says d d_is small =
       let w = slice_index s.words 16 in
       let b = (upper_bounds key s r id m at) in
@@ -123,13 +123,13 @@ module _ {T : Type 0} (key : QueueLimits) (s : QueueTable T) (r : IsShownQueue k
 
   -- ---- the test
 
-  module _ (items : List (ℕ × T)) (others : Posts T) (e : m.0.phase ≡ Some (Alike Idle)) (once : AreApart (names_of items)) (apart : AreDisjoint (names_of items) (names_of others)) (inn : AllIn (names_of items ++ names_of others) m.0.names) (whole : AllIn m.0.names (names_of items ++ names_of others)) (idle : AreIdle others) where
-    rests : (ps : Posts T) → AreIdle ps → AllIn (names_of ps) m.0.names → Stand r.core ps
+  module _ (items : List (ℕ × T)) (others : Posts T) (e : m.0.phase ≡ Some (Alike Idle)) (once : AreApart (names_of items)) (apart : AreDisjoint (names_of items) (names_of others)) (inn : AllIn (names_of items ++ names_of others) m.0.names) (whole : AllIn m.0.names (names_of items ++ names_of others)) (idle : PostsAreIdle others) where
+    rests : (ps : Posts T) → PostsAreIdle ps → AllIn (names_of ps) m.0.names → Stand r.core ps
     rests [] idle inn = tt
     rests (q ∷ ps) idle inn = (r.stands id m.0 at q.0 inn.0 (Alike Idle) e ∙ sym idle.0, rests ps idle.1 inn.1)
 
     tested_so : (g : T → Phase T) → ((x : T) (i : ℕ) → InCell key.size (g x) i → ⊥) → (new : List (Mark T)) → AreAmong (λ (x : Mark T). x.seat) m.0.names new
-        → Changes r.core (tested key.size r.core items) new r.core.upper r.core.lower r.core.draws_in r.core.draws_out (all_at g items) → (then : Standing T) → SaysAfter m.0.names (all_at g items ++ others) then → (tells : List (Mark T) → Type 0) → tells r.core.past
+        → Changes r.core (tested key.size r.core items) new r.core.upper r.core.lower r.core.draws_in r.core.draws_out (all_at g items) → (then : Phases T) → SaysAfter m.0.names (all_at g items ++ others) then → (tells : List (Mark T) → Type 0) → tells r.core.past
         → let v = sees m.0.names m.0.noted (new ++ r.core.past) then m.0.left in IsShownQueue key (stepped s 16 (slice_index s.words 16) id m.1 v keeps) × Leaves (queue_object key.size key.seats) m new then m.0.left m.1 tells (v, m.1)
     tested_so g out new own x then says tells told =
         let was = all_at (λ (x : T). Idle) items in

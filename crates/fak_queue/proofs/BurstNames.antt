@@ -9,10 +9,10 @@ use Rattle.fak_model.proofs.RunningViews.{sees_begins}
 use Rattle.fak_model.proofs.Seats.{in_either, in_left, in_right, marks_of_append}
 use Rattle.fak_core.specs.QueueBlocks.{Posts, names_of, AreApart, all_at}
 use Rattle.fak_core.proofs.QueueBlocks.{names-append, names-at, apart_left, apart_right, apart_both}
-use Rattle.fak_queue.specs.Bursts.{NoneOwn, AllIn, AreDisjoint, AreIdle, Says, units, StandAfter, Makes, pair_up, idle_posts}
+use Rattle.fak_queue.specs.Bursts.{NoneOwn, AllIn, AreDisjoint, PostsAreIdle, Says, units, StandAfter, LeavesMarks, pair_up, idle_posts}
 use Rattle.fak_core.proofs.QueueBlocks.{no_items}
 use Rattle.fak_queue.proofs.BurstPosts.{post_left, post_right}
-use Rattle.fak_queue.proofs.Common.{IsPost, QueueView, QueueHolder, queue_object, queue_rules, Standing, ◌≡◌, ◌⊎◌, ℕ, suc, ◌-◌, ◌≤◌, List, [], ◌∷◌, ◌++◌, length, refl, sym, ap, ◌∙◌, subst, inl, inr, arith, reverse, In, Mark, Phase}
+use Rattle.fak_queue.proofs.Common.{IsPost, QueueView, QueueHolder, queue_object, queue_rules, Phases, ◌≡◌, ◌⊎◌, ℕ, suc, ◌-◌, ◌≤◌, List, [], ◌∷◌, ◌++◌, length, refl, sym, ap, ◌∙◌, subst, inl, inr, arith, reverse, In, Mark, Phase}
 
 -- ---- names
 
@@ -30,7 +30,7 @@ pub idle_names : (T : Type 0) (ns : List ℕ) → names_of (idle_posts {T = T} n
 idle_names T [] = refl
 idle_names T (n ∷ ns) = ap (λ l. n ∷ l) (idle_names T ns)
 
-pub idle_rest : (T : Type 0) (ns : List ℕ) → AreIdle (idle_posts {T = T} ns)
+pub idle_rest : (T : Type 0) (ns : List ℕ) → PostsAreIdle (idle_posts {T = T} ns)
 idle_rest T [] = tt
 idle_rest T (n ∷ ns) = (refl, idle_rest T ns)
 
@@ -133,18 +133,18 @@ mark_name : {T : Type 0} → Mark T → ℕ
 mark_name m = m.seat
 
 -- a step's marks come after the past that it states something of
-pub stands_now : {T : Type 0} {size seats : ℕ} {m after : QueueHolder T} {new : List (Mark T)} {then : Standing T} {left : ℕ} {tells : List (Mark T) → Type 0} (l : Leaves (queue_object size seats) m new then left m.1 tells after) → StandAfter l.past new after
+pub stands_now : {T : Type 0} {size seats : ℕ} {m after : QueueHolder T} {new : List (Mark T)} {then : Phases T} {left : ℕ} {tells : List (Mark T) → Type 0} (l : Leaves (queue_object size seats) m new then left m.1 tells after) → StandAfter l.past new after
 stands_now {new = new} l = ([], append-nil (reverse (new ++ l.past)) ∙ ap (λ (x : QueueHolder _). reverse x.0.seen) (sym l.after_is))
 
-pub stands_more : {T : Type 0} {size seats : ℕ} (past new : List (Mark T)) {g : List (Mark T)} {a b : QueueHolder T} → StandAfter past new a → Makes size seats g a b → StandAfter past new b
+pub stands_more : {T : Type 0} {size seats : ℕ} (past new : List (Mark T)) {g : List (Mark T)} {a b : QueueHolder T} → StandAfter past new a → LeavesMarks size seats g a b → StandAfter past new b
 stands_more past new {a = a} {b = b} s m = begins_trans (reverse (new ++ past)) (reverse a.0.seen) (reverse b.0.seen) s m.begins
 
 -- the past that a step states something of has no new mark of its names
-pub own_past : {T : Type 0} {size seats : ℕ} {m after : QueueHolder T} {new : List (Mark T)} {then : Standing T} {left : ℕ} {tells : List (Mark T) → Type 0} (l : Leaves (queue_object size seats) m new then left m.1 tells after) → NoneOwn l.past m
+pub own_past : {T : Type 0} {size seats : ℕ} {m after : QueueHolder T} {new : List (Mark T)} {then : Phases T} {left : ℕ} {tells : List (Mark T) → Type 0} (l : Leaves (queue_object size seats) m new then left m.1 tells after) → NoneOwn l.past m
 own_past {T} {m = m} l = λ n i. (sees_knows (λ (x : Mark T). x.seat) m.0.names m.0.seen l.past l.sees).own n i
 
 -- a step's marks
-pub makes_step : {T : Type 0} {size seats : ℕ} {m after : QueueHolder T} {new : List (Mark T)} {then : Standing T} {left : ℕ} {tells : List (Mark T) → Type 0} → Leaves (queue_object size seats) m new then left m.1 tells after → Makes size seats new m after
+pub makes_step : {T : Type 0} {size seats : ℕ} {m after : QueueHolder T} {new : List (Mark T)} {then : Phases T} {left : ℕ} {tells : List (Mark T) → Type 0} → Leaves (queue_object size seats) m new then left m.1 tells after → LeavesMarks size seats new m after
 makes_step {T} {size} {seats} {m} {after} {new} l =
     let seat : Mark T → ℕ = λ (x : Mark T). x.seat in
     let seen : after.0.seen ≡ new ++ l.past = ap (λ (x : QueueHolder T). x.0.seen) l.after_is in
@@ -160,7 +160,7 @@ makes_step {T} {size} {seats} {m} {after} {new} l =
     }
 
 -- steps one after another
-pub makes_then : {T : Type 0} {size seats : ℕ} {a b c : QueueHolder T} {f g : List (Mark T)} → Makes size seats f a b → Makes size seats g b c → Makes size seats (g ++ f) a c
+pub makes_then : {T : Type 0} {size seats : ℕ} {a b c : QueueHolder T} {f g : List (Mark T)} → LeavesMarks size seats f a b → LeavesMarks size seats g b c → LeavesMarks size seats (g ++ f) a c
 makes_then {T} {a = a} {b = b} {c = c} {f = f} {g = g} x y =
     let seat : Mark T → ℕ = λ (x : Mark T). x.seat in
     record {
@@ -176,10 +176,10 @@ makes_then {T} {a = a} {b = b} {c = c} {f = f} {g = g} x y =
     }
 
 -- a step with no mark, and another
-pub makes_then_first : {T : Type 0} {size seats : ℕ} {a b c : QueueHolder T} {g : List (Mark T)} → Makes size seats [] a b → Makes size seats g b c → Makes size seats g a c
-makes_then_first {size = size} {seats = seats} {a = a} {c = c} {g = g} x y = subst (λ l. Makes size seats l a c) (append-nil g) (makes_then x y)
+pub makes_then_first : {T : Type 0} {size seats : ℕ} {a b c : QueueHolder T} {g : List (Mark T)} → LeavesMarks size seats [] a b → LeavesMarks size seats g b c → LeavesMarks size seats g a c
+makes_then_first {size = size} {seats = seats} {a = a} {c = c} {g = g} x y = subst (λ l. LeavesMarks size seats l a c) (append-nil g) (makes_then x y)
 
-pub own_past_first : {T : Type 0} {size seats : ℕ} {a b : QueueHolder T} (past : List (Mark T)) → Makes size seats [] a b → NoneOwn past b → NoneOwn past a
+pub own_past_first : {T : Type 0} {size seats : ℕ} {a b : QueueHolder T} (past : List (Mark T)) → LeavesMarks size seats [] a b → NoneOwn past b → NoneOwn past a
 own_past_first {T} {a = a} past x none = λ n i. none n (subst (In n) (sym x.names) i) ∙ (x.mine n i ∙ append-nil (marks_of (λ (m : Mark T). m.seat) n (reverse a.0.seen)))
 
 -- ---- those that are over

@@ -4,9 +4,9 @@ use Rattle.fak_model.proofs.Deciding.{same_or_not}
 use Rattle.fak_model.proofs.RunningBlocks.{AreAmong, among_append}
 use Rattle.fak_core.specs.declared.queue.phase.Phase.TheVariants.{Idle}
 use Rattle.fak_core.specs.QueueBlocks.{Posts, names_of, Stand, all_at, turns_from, marks_back, turns_out_from}
-use Rattle.fak_queue.specs.Bursts.{AllIn, AreIdle, SaysAfter, post_to, posts_to}
+use Rattle.fak_queue.specs.Bursts.{AllIn, PostsAreIdle, SaysAfter, post_to, posts_to}
 use Rattle.std.specs.Prelude.{cond}
-use Rattle.fak_queue.proofs.Common.{IsPost, StandsIn, ◌≡◌, ◌≢◌, ◌⊎◌, ℕ, ◌+◌, List, [], ◌∷◌, ◌++◌, refl, sym, ap, ◌∙◌, subst, inl, inr, arith, Bool, true, false, ◌==◌, nat_tests, Standing, In, Mark, Phase, QueueState, InCell}
+use Rattle.fak_queue.proofs.Common.{IsPost, StandsIn, ◌≡◌, ◌≢◌, ◌⊎◌, ℕ, ◌+◌, List, [], ◌∷◌, ◌++◌, refl, sym, ap, ◌∙◌, subst, inl, inr, arith, Bool, true, false, ◌==◌, nat_tests, Phases, In, Mark, Phase, QueueState, InCell}
 
 -- ---- names
 
@@ -54,21 +54,21 @@ pub post_right : {T : Type 0} (a b : Posts T) (n : ℕ) (p : Phase T) → IsPost
 post_right [] b n p i = i
 post_right (s ∷ a) b n p i = inr (post_right a b n p i)
 
-pub idle_all : (T : Type 0) {B : Type 0} (ss : List (ℕ × B)) → AreIdle (all_at {A = T} (λ (x : B). Idle) ss)
+pub idle_all : (T : Type 0) {B : Type 0} (ss : List (ℕ × B)) → PostsAreIdle (all_at {A = T} (λ (x : B). Idle) ss)
 idle_all T [] = tt
 idle_all T (s ∷ ss) = (refl, idle_all T ss)
 
-pub idle_both : {T : Type 0} (p q : Posts T) → AreIdle p → AreIdle q → AreIdle (p ++ q)
+pub idle_both : {T : Type 0} (p q : Posts T) → PostsAreIdle p → PostsAreIdle q → PostsAreIdle (p ++ q)
 idle_both [] q a b = b
 idle_both (s ∷ p) q a b = (a.0, idle_both p q a.1 b)
 
-pub idle_at : {T : Type 0} (c : QueueState T) (ps : Posts T) → Stand c ps → AreIdle ps → (n : ℕ) → In n (names_of ps) → c.phase n ≡ Idle
+pub idle_at : {T : Type 0} (c : QueueState T) (ps : Posts T) → Stand c ps → PostsAreIdle ps → (n : ℕ) → In n (names_of ps) → c.phase n ≡ Idle
 idle_at c [] all idle n i = absurd i
 idle_at c (s ∷ ps) all idle n (inl e) = ap c.phase e ∙ (all.0 ∙ idle.0)
 idle_at c (s ∷ ps) all idle n (inr i) = idle_at c ps all.1 idle.1 n i
 
 -- the posts that the view states are true
-pub says_of : {T : Type 0} (c : QueueState T) (ps : Posts T) (names : List ℕ) (then : Standing T) → SaysAfter names ps then → Stand c ps → (n : ℕ) → In n names → StandsIn c n then
+pub says_of : {T : Type 0} (c : QueueState T) (ps : Posts T) (names : List ℕ) (then : Phases T) → SaysAfter names ps then → Stand c ps → (n : ℕ) → In n names → StandsIn c n then
 says_of c ps names then (inl e) all n i = subst (StandsIn c n) (sym e) (λ p j. stand_at c ps n p j all)
 says_of c ps names then (inr rest) all n i = subst (StandsIn c n) (sym rest.0) (idle_at c ps all rest.1 n (in_all names (names_of ps) rest.2 n i))
 

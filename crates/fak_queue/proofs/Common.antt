@@ -32,8 +32,8 @@ pub use Rattle.fak_queue.specs.Parts.{IsPart, ClaimedIn, RefusedIn, ClaimedOut, 
 pub use Rattle.fak_queue.specs.Queues.{QueueInfo, size_of, made_by, Makes, Inserts, Deletes, RefusesFull, RefusesEmpty, RefusesClosed, ShutsAs, state_of, RestsAt, idle, inserting, deleting, seat_of, drawn_by, queue_info, IsQueue, queue_seat, IsQueueSeat, ClaimsIn, AreIdle, tickets_in, state_at, before_own, ClaimsOut, WaitsToFill, Fills, WaitsToTake, Takes, ShutsAfter, IsState, IsWorn, kinds_in, kinds_out}
 pub use Rattle.fak_queue.specs.Refusals.{RefusesInsertion, IsInRange, IsLargeSize, RefusesDeletion}
 pub use Rattle.fak_queue.specs.Retries.{RefusedInsertion, NotIn, WithdrawnIn, ClosedIn, WithdrawnLate, RefusedDeletion, NotOut, WithdrawnOut, kinds_not_in, kinds_not_out, InsertsAfterFull, IsFull, IsClosed, MakesAtLast, before_last, ClosesAfterFull, DeletesAfterEmpty}
-pub use Rattle.fak_queue.specs.declared.standing.Standing.{Standing}
-pub use Rattle.fak_queue.specs.declared.standing.Standing.TheVariants.{Alike, Each}
+pub use Rattle.fak_queue.specs.declared.phases.Phases.{Phases}
+pub use Rattle.fak_queue.specs.declared.phases.Phases.TheVariants.{Alike, Each}
 pub use Rattle.fak_queue.specs.Shown.{sight, Leaves, IsPost, StandsIn, QueueHolder, queue_object, IsShownQueue, QueueView, IsAtHome, IsEncoded, opened_queue, HasSlot}
 pub use Rattle.fak_queue.specs.Steps.{mark, Named, ShutAs, TurnedIn, FilledCell, EndsIn, TurnedOut, FreedCell, EndsOut, Shuts, Marks, TestedUp, AddedUp, BacksUp, DrewIn, TestedLow, SubtractedLow, BacksLow, DrawsOut, TestsUp, AddsUp, DrawsIn, TurnsIn, SetsFull, TestsLow, SubtractsLow, TurnsOut, SetsFree, HeardJoin, WaitsOut, WaitsIn, FitsTable}
 pub use Rattle.fak_queue.specs.Words.{UpperCount, LowerCount, IsUpperCount, AreWords, shut_bit, shut_part, IsLowerCount}

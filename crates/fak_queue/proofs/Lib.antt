@@ -20,6 +20,7 @@ pub mod Admissions
 pub mod Turning
 pub mod Inverse
 pub mod Looking
+pub mod SeatParts
 pub mod SeatCalls
 pub mod Openings
 pub mod WholeCalls
@@ -72,3 +73,9 @@ pub mod Gathering
 pub mod BundleMaking
 pub mod BundleSharing
 pub mod BundleJoins
+pub mod SleeperSeats
+pub mod SleeperCalls
+pub mod SleeperSteps
+pub mod CallAccounts
+pub mod SeatsSeen
+pub mod Dealing

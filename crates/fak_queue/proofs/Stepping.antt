@@ -1,9 +1,9 @@
 -- What a seat knows as it takes an atomic step, and the steps that take and give no slot.
-use Rattle.fak_queue.proofs.Common.{IsReachedFrom, reached_after, sleepers_after, Alike, Each, Standing, StandsIn, QueueLimits, shut_part, AreWords, QueueView, QueueHolder, queue_object, IsShownQueue, ◌≡◌, ◌≢◌, ℕ, ◌+◌, ◌-◌, ◌%◌, ◌^◌, ◌<◌, ◌≤◌, List, [], ◌∷◌, ◌++◌, slice_index, set, refl, sym, ap, ◌∙◌, subst, inl, arith, mod-lt, Option, Some, true, false, ℤ, pos, ◌+ℤ◌, ◌-ℤ◌, reverse, All, All-head, All-tail, ints, some, get_elem?, count, puts, gots, upper_raise, upper_drop, lower_raise, lower_drop, upper_count, lower_count, SeatsBelow, In, sight, AreOwn, Leaves, bias, State, Act, keeps, stepped, carried_after, Valid, Mark, count_reverse, upper_range, lower_range, AreLawful, Advances, steps, total_at, Phase, QueueState, with_at, InCell, AreIdleFrom, IsKept, at_here, at_else, kept, legal_history}
+use Rattle.fak_queue.proofs.Common.{IsReachedFrom, reached_after, sleepers_after, Alike, Each, Phases, StandsIn, QueueLimits, shut_part, AreWords, QueueView, QueueHolder, queue_object, IsShownQueue, ◌≡◌, ◌≢◌, ℕ, ◌+◌, ◌-◌, ◌%◌, ◌^◌, ◌<◌, ◌≤◌, List, [], ◌∷◌, ◌++◌, slice_index, set, refl, sym, ap, ◌∙◌, subst, inl, arith, mod-lt, Option, Some, true, false, ℤ, pos, ◌+ℤ◌, ◌-ℤ◌, reverse, All, All-head, All-tail, ints, some, get_elem?, count, puts, gots, upper_raise, upper_drop, lower_raise, lower_drop, upper_count, lower_count, SeatsBelow, In, sight, AreOwn, Leaves, bias, State, Act, keeps, stepped, carried_after, Valid, Mark, count_reverse, upper_range, lower_range, AreLawful, Advances, steps, total_at, Phase, QueueState, with_at, InCell, AreIdleFrom, IsKept, at_here, at_else, kept, legal_history}
 use Rattle.fak_queue.proofs.WordWrites.{grown, shrunk, shut_part-small, words_same, words_upper, words_lower, words_turn}
 use Rattle.fak_queue.proofs.Slots.{stays_home}
 
-pub stands_else : {T : Type 0} (b c : QueueState T) (n : ℕ) → c.phase n ≡ b.phase n → (q : Standing T) → StandsIn b n q → StandsIn c n q
+pub stands_else : {T : Type 0} (b c : QueueState T) (n : ℕ) → c.phase n ≡ b.phase n → (q : Phases T) → StandsIn b n q → StandsIn c n q
 stands_else b c n e (Alike p) at = e ∙ at
 stands_else b c n e (Each ps) at = λ p i. e ∙ at p i
 

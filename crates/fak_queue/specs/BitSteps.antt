@@ -7,7 +7,8 @@ use Rattle.fak_model.specs.declared.note.NoteKind.{NoteKind}
 use Rattle.fak_model.specs.declared.note.NoteKind.TheVariants.{AsSender, AsReceiver, Checks}
 use Rattle.fak_model.specs.declared.note.Sign.TheVariants.{Registers, FindsNoItem, FallsAsleep, IsWoken, TakesBack, GivesUp, PassesWord, WakesEnd}
 use Rattle.fak_model.specs.declared.queue.Mark.{Mark}
-use Rattle.fak_model.specs.Queue.{upper_count, lower_count}
+use Rattle.fak_model.specs.declared.queue.Kind.TheVariants.{Close}
+use Rattle.fak_model.specs.Queue.{Has}
 use Rattle.fak_model.specs.Shown.{TellsNothing}
 use Rattle.fak_model.specs.Views.{noting}
 use Rattle.fak_core.specs.declared.queue.phase.Phase.TheVariants.{Idle}
@@ -15,6 +16,8 @@ use Rattle.fak_queue.specs.declared.found.NoRoom.TheVariants.{Full, Shut}
 use Rattle.fak_queue.specs.declared.in_use.InUse.{InUse}
 use Rattle.fak_queue.specs.declared.role.Role.{Role}
 use Rattle.fak_queue.specs.Accounts.{kinds_by}
+use Rattle.fak_queue.specs.Drained.{IsDrained}
+use Rattle.fak_queue.specs.Found.{HasRoom, HasNoRoom, HasItem, HasNoItem}
 use Rattle.fak_queue.specs.Shown.{QueueHolder}
 use Rattle.fak_queue.specs.Sleepers.{as_role}
 use Rattle.fak_queue.specs.Steps.{Marks}
@@ -41,8 +44,8 @@ module _ {T : Type 0} where
   Notes size seats n k tells m after = Marks size seats (noting (note_by n k m) m.0, m.1) [] Idle tells after
 
   -- it adds none
-  abbrev pub NotesNothing : ℕ → ℕ → QueueHolder T → QueueHolder T → Type 0
-  NotesNothing size seats m after = Marks size seats m [] Idle TellsNothing after
+  abbrev pub NotesNothing : ℕ → ℕ → (List (Mark T) → Type 0) → QueueHolder T → QueueHolder T → Type 0
+  NotesNothing size seats tells m after = Marks size seats m [] Idle tells after
 
 module _ {T : Type 0} (size seats n : ℕ) where
   -- ---- the own bit
@@ -52,7 +55,7 @@ module _ {T : Type 0} (size seats n : ℕ) where
 
   -- the bit is still set, or another end has cleared it
   abbrev pub SawBit : Role → Bool → QueueHolder T → QueueHolder T → Type 0
-  SawBit role true m after = NotesNothing size seats m after
+  SawBit role true m after = NotesNothing size seats TellsNothing m after
   SawBit role false m after = Notes size seats n (as_role role IsWoken) TellsNothing m after
 
   -- the bit is clear now. It was set, or another end had cleared it
@@ -68,34 +71,35 @@ module _ {T : Type 0} (size seats n : ℕ) where
   -- no bit of this word is set, or some
   pub record Looked (role : Role) (word found : ℕ) (m after : QueueHolder T) : Type 0 where
     pub none : found ≡ 0 → Notes size seats n (as_role role (PassesWord word)) TellsNothing m after
-    pub some : found ≢ 0 → NotesNothing size seats m after
+    pub some : found ≢ 0 → NotesNothing size seats TellsNothing m after
 
   -- the bit of end k is clear now. If it was set, this has woken that end
   abbrev pub Cleared : Role → ℕ → Bool → QueueHolder T → QueueHolder T → Type 0
   Cleared role k true m after = Notes size seats n (as_role role (WakesEnd k)) TellsNothing m after
-  Cleared role k false m after = NotesNothing size seats m after
+  Cleared role k false m after = NotesNothing size seats TellsNothing m after
 
   -- ---- tests
 
   -- the second test of a sender: it falls asleep if there is no room and the queue is open
   abbrev pub TestedRoomAgain : UpperCount → QueueHolder T → QueueHolder T → Type 0
-  TestedRoomAgain (Ok room) m after = NotesNothing size seats m after
-  TestedRoomAgain (Err (Full u)) m after = Notes size seats n (AsSender FallsAsleep) (λ past. u ≡ upper_count (reverse past)) m after
-  TestedRoomAgain (Err Shut) m after = NotesNothing size seats m after
+  TestedRoomAgain (Ok room) m after = NotesNothing size seats (λ past. HasRoom size (reverse past)) m after
+  TestedRoomAgain (Err (Full u)) m after = Notes size seats n (AsSender FallsAsleep) (λ past. HasNoRoom size u (reverse past)) m after
+  TestedRoomAgain (Err Shut) m after = NotesNothing size seats (λ past. Has Close (reverse past)) m after
 
   -- the second test of a receiver, of the lower count
   abbrev pub TestedItemAgain : LowerCount → QueueHolder T → QueueHolder T → Type 0
-  TestedItemAgain (Ok stock) m after = NotesNothing size seats m after
-  TestedItemAgain (Err l) m after = Notes size seats n (AsReceiver FindsNoItem) (λ past. l ≡ lower_count (reverse past)) m after
+  TestedItemAgain (Ok stock) m after = NotesNothing size seats (λ past. HasItem (reverse past)) m after
+  TestedItemAgain (Err l) m after = Notes size seats n (AsReceiver FindsNoItem) (λ past. HasNoItem l (reverse past)) m after
 
   -- the rest of that test: it falls asleep unless the channel is drained
   abbrev pub TestedDrainedAgain : Bool → QueueHolder T → QueueHolder T → Type 0
-  TestedDrainedAgain true m after = NotesNothing size seats m after
-  TestedDrainedAgain false m after = Notes size seats n (AsReceiver FallsAsleep) TellsNothing m after
+  TestedDrainedAgain true m after = NotesNothing size seats (λ past. IsDrained (reverse past)) m after
+  TestedDrainedAgain false m after = Notes size seats n (AsReceiver FallsAsleep) (λ past. IsDrained (reverse past) → ⊥) m after
 
   -- the check of an end that may have drained the channel
   abbrev pub CheckedDrained : Bool → QueueHolder T → QueueHolder T → Type 0
-  CheckedDrained drained m after = Notes size seats n (Checks drained) TellsNothing m after
+  CheckedDrained true m after = Notes size seats n (Checks true) (λ past. IsDrained (reverse past)) m after
+  CheckedDrained false m after = Notes size seats n (Checks false) (λ past. IsDrained (reverse past) → ⊥) m after
 
   -- ---- by the word that was found
 

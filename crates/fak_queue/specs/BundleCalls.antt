@@ -12,7 +12,7 @@ use Rattle.fak_core.specs.declared.queue.phase.Phase.TheVariants as phase
 use Rattle.fak_core.specs.QueueBlocks.{AreApart}
 use Rattle.fak_queue.specs.declared.bundle.BundleState.{BundleState}
 use Rattle.fak_queue.specs.declared.bundle.BundleState.TheVariants.{Idle, Inserting, Deleting}
-use Rattle.fak_queue.specs.declared.standing.Standing.TheVariants.{Alike}
+use Rattle.fak_queue.specs.declared.phases.Phases.TheVariants.{Alike}
 use Rattle.fak_queue.specs.Shown.{QueueHolder}
 use Rattle.fak_queue.specs.Queues.{AreIdle, drawn_by, seat_of, tickets_in}
 use Rattle.fak_queue.specs.Bundles.{IsLawful, Filling, Emptying}

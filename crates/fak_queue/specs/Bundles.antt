@@ -10,12 +10,12 @@ use Rattle.fak_model.specs.Queue.{items_put, item_at, Has, Drew, queue_rules, co
 use Rattle.fak_core.specs.declared.queue.phase.Phase.{Phase}
 use Rattle.fak_core.specs.declared.queue.phase.Phase.TheVariants.{Idle, TurnIn, StoreItem, EndInsert, TurnOut, LoadItem, EndDelete}
 use Rattle.fak_core.specs.QueueBlocks.{Posts}
-use Rattle.fak_queue.specs.declared.standing.Standing.TheVariants.{Alike, Each}
+use Rattle.fak_queue.specs.declared.phases.Phases.TheVariants.{Alike, Each}
 use Rattle.fak_queue.specs.Shown.{QueueView, QueueHolder, IsPost}
 use Rattle.fak_queue.specs.Steps.{mark}
 use Rattle.fak_queue.specs.declared.found.NoRoom.{NoRoom}
 use Rattle.fak_queue.specs.declared.found.NoRoom.TheVariants.{Full, Shut}
-use Rattle.fak_queue.specs.Bursts.{Makes}
+use Rattle.fak_queue.specs.Bursts.{LeavesMarks}
 use Rattle.fak_queue.specs.Queues.{seat_of, made_by}
 use Rattle.fak_queue.specs.Parts.{before_part}
 
@@ -29,7 +29,7 @@ pub record StepsOn {T : Type 0} (size seats n : ℕ) (q : Phase T) (new : List (
   pub others : (t : ℕ) (w : Phase T) → t ≢ n → SaysOf m.0 t w → SaysOf after.0 t w
   pub left : after.0.left ≡ m.0.left
   pub carries : after.1 ≡ carried
-  pub makes : Makes size seats new (m.0, []) (after.0, [])
+  pub makes : LeavesMarks size seats new (m.0, []) (after.0, [])
 
 module _ {T : Type 0} (size seats n k : ℕ) where
   -- the insertion with ticket k waits: the round before was not taken from its cell

@@ -16,7 +16,7 @@ use Rattle.fak_core.specs.declared.queue.phase.Phase.TheVariants as phase
 use Rattle.fak_queue.specs.declared.bundle.BundleState.TheVariants.{Idle}
 use Rattle.fak_queue.specs.declared.fault.BundleFault.{BundleFault}
 use Rattle.fak_queue.specs.declared.fault.BundleFault.TheVariants.{NoSeats, Memory}
-use Rattle.fak_queue.specs.declared.standing.Standing.TheVariants.{Alike}
+use Rattle.fak_queue.specs.declared.phases.Phases.TheVariants.{Alike}
 use Rattle.fak_queue.specs.declared.state.SeatState.TheVariants as seat
 use Rattle.fak_queue.specs.Shown.{QueueHolder, queue_object}
 use Rattle.fak_queue.specs.Queues.{drawn_by, seat_of, state_of, tickets_in}

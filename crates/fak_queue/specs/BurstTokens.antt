@@ -5,7 +5,7 @@ use Rattle.fak_model.specs.Limits.{large_seats}
 use Rattle.fak_model.specs.Seats.{In}
 use Rattle.fak_core.specs.QueueBlocks.{AreApart, Posts, names_of}
 use Rattle.fak_queue.specs.declared.limits.QueueLimits.{QueueLimits}
-use Rattle.fak_queue.specs.declared.place.Place.{Place}
+use Rattle.fak_queue.specs.declared.ticket_cell.TicketCell.{TicketCell}
 use Rattle.fak_queue.specs.Bundles.{IsLawful}
 use Rattle.fak_queue.specs.Bursts.{AllIn, AreDisjoint}
 use Rattle.fak_queue.specs.Shown.{QueueHolder}
@@ -30,7 +30,7 @@ pub record IsClaimToken {T : Type 0} (id : TableId) (key : QueueLimits) (own : L
   pub phase : stands token.me
 
 -- the token of a bundle that has this name, whose ticket has this place
-pub record IsNameAt {T : Type 0} (id : TableId) (key : QueueLimits) (seats : ℕ) (at : Place) (own : ℕ) (stands : QueueHolder T → Type 0) (token : QueueToken T) : Type 0 where
+pub record IsNameAt {T : Type 0} (id : TableId) (key : QueueLimits) (seats : ℕ) (at : TicketCell) (own : ℕ) (stands : QueueHolder T → Type 0) (token : QueueToken T) : Type 0 where
   pub table : FitsTable token.table_id id key seats
   pub place : IsPlace id.slots at
   pub name : In own token.me.0.names

@@ -12,8 +12,8 @@ use Rattle.fak_model.specs.Shown.{Leaves}
 use Rattle.fak_core.specs.declared.queue.phase.Phase.{Phase}
 use Rattle.fak_core.specs.declared.queue.phase.Phase.TheVariants.{Idle, AddUp, BackUp, TicketIn, TurnIn, StoreItem, EndInsert, SubLow, BackLow, TicketOut, TurnOut, LoadItem, EndDelete}
 use Rattle.fak_core.specs.QueueBlocks.{Posts, names_of, all_at, marks_back, turns_from, turns_out_from, ArePut}
-use Rattle.fak_queue.specs.declared.standing.Standing.{Standing}
-use Rattle.fak_queue.specs.declared.standing.Standing.TheVariants.{Alike, Each}
+use Rattle.fak_queue.specs.declared.phases.Phases.{Phases}
+use Rattle.fak_queue.specs.declared.phases.Phases.TheVariants.{Alike, Each}
 use Rattle.fak_queue.specs.Shown.{QueueView, QueueHolder, queue_object, IsPost}
 use Rattle.fak_queue.specs.Steps.{WaitsIn, WaitsOut, mark}
 use Rattle.fak_queue.specs.declared.found.NoRoom.{NoRoom}
@@ -34,14 +34,14 @@ abbrev pub Says : {T : Type 0} → QueueView T → Posts T → Type 0
 Says {T} v ps = (all : Posts T) × (v.phase ≡ Some (Each all)) × ((n : ℕ) (p : Phase T) → IsPost n p ps → IsPost n p all)
 
 -- each of these is at rest
-abbrev pub AreIdle : {T : Type 0} → Posts T → Type 0
-AreIdle [] = Unit {0}
-AreIdle (s ∷ ps) = (s.1 ≡ Idle) × AreIdle ps
+abbrev pub PostsAreIdle : {T : Type 0} → Posts T → Type 0
+PostsAreIdle [] = Unit {0}
+PostsAreIdle (s ∷ ps) = (s.1 ≡ Idle) × PostsAreIdle ps
 
 -- what a view may state after a step that leaves these posts. It states the posts; or that all names are at rest, if all posts are
 -- at rest and no name is missing.
-abbrev pub SaysAfter : {T : Type 0} → List ℕ → Posts T → Standing T → Type 0
-SaysAfter names posts then = (then ≡ Each posts) ⊎ ((then ≡ Alike Idle) × AreIdle posts × AllIn names (names_of posts))
+abbrev pub SaysAfter : {T : Type 0} → List ℕ → Posts T → Phases T → Type 0
+SaysAfter names posts then = (then ≡ Each posts) ⊎ ((then ≡ Alike Idle) × PostsAreIdle posts × AllIn names (names_of posts))
 
 -- the names of `items` drew tickets that follow one another from `found` on, which is the number of earlier Puts; the others keep
 -- their phases
@@ -78,7 +78,7 @@ module _ {T : Type 0} (size seats : ℕ) (items : List (ℕ × T)) (others : Pos
     pub late : shut_bit ≤ found → Leaves (queue_object size seats) m (marks_back (λ x. made.Closed) items) (Alike Idle) m.0.left m.1 (λ past. Unit {0}) after
 
   -- the names of `items` withdrew
-  abbrev pub BackBurst : Standing T → QueueHolder T → QueueHolder T → Type 0
+  abbrev pub BackBurst : Phases T → QueueHolder T → QueueHolder T → Type 0
   BackBurst then m after = Leaves (queue_object size seats) m (marks_back (λ x. made.BackIn) items) then m.0.left m.1 (λ past. Unit {0}) after
 
 -- the same posts, except that this name is at phase p
@@ -97,7 +97,7 @@ tickets_of [] k = []
 tickets_of (n ∷ names) k = (n, k) ∷ tickets_of names (k + 1)
 
 -- what the view states once these names are at rest; with `true`, all other names are at rest too
-abbrev pub once_rest : {T : Type 0} → Bool → List ℕ → Posts T → Standing T
+abbrev pub once_rest : {T : Type 0} → Bool → List ℕ → Posts T → Phases T
 once_rest true names all = Alike Idle
 once_rest false names all = Each (posts_to names Idle all)
 
@@ -124,8 +124,8 @@ module _ {T : Type 0} (size seats n k : ℕ) where
 abbrev pub TurnsBurst : {T : Type 0} → ℕ → ℕ → ℕ → QueueHolder T → ℕ → QueueHolder T → Type 0
 TurnsBurst {T} size seats n m found after = (k : ℕ) (x : T) (all : Posts T) → m.0.phase ≡ Some (Each all) → IsPost n (TurnIn k x) all → TurnedBurst size seats n k x all m found after
 
-abbrev pub FillsBurst : {T : Type 0} → ℕ → ℕ → ℕ → QueueHolder T → QueueHolder T → Type 0
-FillsBurst {T} size seats n m after = (k : ℕ) (x : T) (all : Posts T) → m.0.phase ≡ Some (Each all) → IsPost n (StoreItem k x) all → FilledBurst size seats n k all m after
+abbrev pub FillsCellInBurst : {T : Type 0} → ℕ → ℕ → ℕ → QueueHolder T → QueueHolder T → Type 0
+FillsCellInBurst {T} size seats n m after = (k : ℕ) (x : T) (all : Posts T) → m.0.phase ≡ Some (Each all) → IsPost n (StoreItem k x) all → FilledBurst size seats n k all m after
 
 -- ---- parts of a burst
 
@@ -141,7 +141,7 @@ idle_posts [] = []
 idle_posts (n ∷ ns) = (n, Idle) ∷ idle_posts ns
 
 -- the names of a token left these marks, newest first, and it has seen more; the records below state the rest
-pub record Makes {T : Type 0} (size seats : ℕ) (new : List (Mark T)) (m after : QueueHolder T) : Type 0 where
+pub record LeavesMarks {T : Type 0} (size seats : ℕ) (new : List (Mark T)) (m after : QueueHolder T) : Type 0 where
   pub names : after.0.names ≡ m.0.names
   pub slots : after.1 ≡ m.1
   pub begins : Begins (reverse m.0.seen) (reverse after.0.seen)
@@ -166,7 +166,7 @@ EndsIn {T} (x ∷ new) after = (past : List (Mark T)) × (after.0.seen ≡ x ∷
 pub record NoneBurst {T : Type 0} (size seats : ℕ) (new : List (Mark T)) (m after : QueueHolder T) : Type 0 where
   pub phase : after.0.phase ≡ Some (Alike Idle)
   pub left : after.0.left ≡ m.0.left
-  pub makes : Makes size seats new m after
+  pub makes : LeavesMarks size seats new m after
   pub ends : EndsIn new after
 
 -- the first j of the names with an item are to draw, the others are at phases of this kind. The names without an item are at rest.
@@ -180,7 +180,7 @@ module _ {T : Type 0} (size seats : ℕ) (ns : List ℕ) (xs : List T) where
     pub most : j ≤ length xs
     pub phase : Says after.0 (claims_at (λ x. Idle) ns xs j)
     pub left : after.0.left ≡ m.0.left
-    pub makes : Makes size seats (marks_back (λ x. made.BackIn) (drop j (pair_up ns xs)) ++ (marks_back (λ x. made.OverIn) (drop j (pair_up ns xs)) ++ marks_back (λ x. made.ClaimIn) (take j (pair_up ns xs)))) m after
+    pub makes : LeavesMarks size seats (marks_back (λ x. made.BackIn) (drop j (pair_up ns xs)) ++ (marks_back (λ x. made.OverIn) (drop j (pair_up ns xs)) ++ marks_back (λ x. made.ClaimIn) (take j (pair_up ns xs)))) m after
     -- the count that the first add found, in the past before it
     pub found : ℕ
     pub granted : j ≡ granted_of size found (length xs)
@@ -200,7 +200,7 @@ module _ {T : Type 0} (size seats : ℕ) (ns : List ℕ) (xs : List T) where
     pub most : j ≤ length xs
     pub phase : after.0.phase ≡ Some (Each (turns_from k (take j (pair_up ns xs)) ++ (all_at (λ x. Idle) (drop j (pair_up ns xs)) ++ idle_posts (drop (length xs) ns))))
     pub left : after.0.left ≡ m.0.left - j
-    pub makes : Makes size seats (marks_back (λ x. made.Put x) (take j (pair_up ns xs)) ++ (marks_back (λ x. made.BackIn) (drop j (pair_up ns xs))
+    pub makes : LeavesMarks size seats (marks_back (λ x. made.Put x) (take j (pair_up ns xs)) ++ (marks_back (λ x. made.BackIn) (drop j (pair_up ns xs))
         ++ (marks_back (λ x. made.OverIn) (drop j (pair_up ns xs)) ++ marks_back (λ x. made.ClaimIn) (take j (pair_up ns xs))))) m after
     pub past : List (Mark T)
     pub puts_last : after.0.seen ≡ marks_back (λ x. made.Put x) (take j (pair_up ns xs)) ++ past
@@ -230,7 +230,7 @@ module _ {T : Type 0} (size seats : ℕ) (items : List (ℕ × Unit {0})) (other
   abbrev pub SubbedBurst : QueueHolder T → ℕ → QueueHolder T → Type 0
   SubbedBurst m found after = SubbedSome (granted_low found (length items)) m found after
 
-  abbrev pub BackLowBurst : Standing T → QueueHolder T → QueueHolder T → Type 0
+  abbrev pub BackLowBurst : Phases T → QueueHolder T → QueueHolder T → Type 0
   BackLowBurst then m after = Leaves (queue_object size seats) m (marks_back (λ x. made.BackOut) items) then m.0.left m.1 (λ past. Unit {0}) after
 
   -- these names drew tickets that follow one another from `found` on, each with the item that was put under its ticket
@@ -278,7 +278,7 @@ module _ {T : Type 0} (size seats : ℕ) (ns : List ℕ) (us : List (Unit {0})) 
     pub most : j ≤ length us
     pub phase : Says after.0 (claims_out_at Idle ns us j)
     pub left : after.0.left ≡ m.0.left
-    pub makes : Makes size seats (marks_back (λ x. made.BackOut) (drop j (pair_up ns us)) ++ (marks_back (λ x. made.OverOut) (drop j (pair_up ns us)) ++ marks_back (λ x. made.ClaimOut) (take j (pair_up ns us)))) m after
+    pub makes : LeavesMarks size seats (marks_back (λ x. made.BackOut) (drop j (pair_up ns us)) ++ (marks_back (λ x. made.OverOut) (drop j (pair_up ns us)) ++ marks_back (λ x. made.ClaimOut) (take j (pair_up ns us)))) m after
     -- the count that the first subtraction found, in the past before it
     pub found : ℕ
     pub granted : j ≡ granted_low found (length us)
@@ -300,7 +300,7 @@ module _ {T : Type 0} (size seats : ℕ) (ns : List ℕ) (us : List (Unit {0})) 
     pub names : names_of drawn ≡ names_of (take j (pair_up ns us))
     pub phase : after.0.phase ≡ Some (Each (turns_out_from k (take j (pair_up ns us)) ++ (all_at (λ x. Idle) (drop j (pair_up ns us)) ++ idle_posts (drop (length us) ns))))
     pub left : after.0.left ≡ m.0.left - j
-    pub makes : Makes size seats (marks_back (λ x. made.Got x) drawn ++ (marks_back (λ x. made.BackOut) (drop j (pair_up ns us))
+    pub makes : LeavesMarks size seats (marks_back (λ x. made.Got x) drawn ++ (marks_back (λ x. made.BackOut) (drop j (pair_up ns us))
         ++ (marks_back (λ x. made.OverOut) (drop j (pair_up ns us)) ++ marks_back (λ x. made.ClaimOut) (take j (pair_up ns us))))) m after
     pub past : List (Mark T)
     pub gots_last : after.0.seen ≡ marks_back (λ x. made.Got x) drawn ++ past

@@ -1,4 +1,6 @@
 pub mod Words
+pub mod Found
+pub mod Drained
 pub mod Accounts
 pub mod Sleepers
 pub mod Shown
@@ -14,7 +16,10 @@ pub mod Parts
 pub mod Left
 pub mod Rests
 pub mod Sums
-pub mod Drained
+pub mod SeatParts
+pub mod SleeperSeats
+pub mod SeatsSeen
+pub mod CallAccounts
 pub mod Bursts
 pub mod Bundles
 pub mod BurstTokens

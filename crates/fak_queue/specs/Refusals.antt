@@ -1,6 +1,8 @@
 -- Which refusal a call returns, and what it leaves.
-use Rattle.std.specs.Prelude.{◌≡◌, ℕ, ◌<◌, ◌≤◌}
+use Rattle.std.specs.Prelude.{◌≡◌, ℕ, ◌<◌, ◌≤◌, Bool, if◌then◌else◌, List, [], ◌∷◌}
 use Rattle.fak_model.specs.Limits.{IsNumberOfSeats, IsStint, large_size, largest_size}
+use Rattle.fak_model.specs.declared.queue.Kind.{Kind}
+use Rattle.fak_model.specs.declared.queue.Kind.TheVariants as made
 use Rattle.fak_model.specs.declared.queue.Mark.{Mark}
 use Rattle.fak_model.specs.Calls.{SeatInfo}
 use Rattle.fak_queue.specs.declared.fault.InsertFault.{InsertFault}
@@ -9,7 +11,7 @@ use Rattle.fak_queue.specs.declared.fault.DeleteFault.{DeleteFault}
 use Rattle.fak_queue.specs.declared.fault.DeleteFault.TheVariants as deletion
 use Rattle.fak_queue.specs.declared.fault.OpenFault.{OpenFault}
 use Rattle.fak_queue.specs.declared.fault.OpenFault.TheVariants.{BadSize, BadSeats, BadStint, Memory}
-use Rattle.fak_queue.specs.Queues.{drawn_by, IsWorn, RefusesClosed, RefusesFull, RefusesEmpty}
+use Rattle.fak_queue.specs.Queues.{Makes, drawn_by, IsWorn, RefusesClosed, RefusesFull, RefusesEmpty}
 
 -- the item comes back; only a seat that drew all its tickets is worn
 abbrev pub RefusesInsertion : {T : Type 0} → ℕ → T → SeatInfo (Mark T) → SeatInfo (Mark T) → InsertFault T → Type 0
@@ -20,6 +22,27 @@ RefusesInsertion size x old new (Full upper y) = (y ≡ x) × (drawn_by old < ol
 abbrev pub RefusesDeletion : {T : Type 0} → ℕ → SeatInfo (Mark T) → SeatInfo (Mark T) → DeleteFault → Type 0
 RefusesDeletion size old new deletion.Worn = IsWorn old new
 RefusesDeletion size old new (deletion.Empty lower) = (drawn_by old < old.stint) × RefusesEmpty size lower old new
+
+-- the marks of a claim that the upper count refused, or the close, or the lower count: by its first test; or after it had counted, and
+-- was withdrawn
+abbrev pub kinds_full : {T : Type 0} → Bool → List (Kind T)
+kinds_full withdraws = if withdraws then made.OverIn ∷ made.BackIn ∷ [] else made.NoRoom ∷ []
+
+abbrev pub kinds_closed : {T : Type 0} → Bool → List (Kind T)
+kinds_closed withdraws = if withdraws then made.LateIn ∷ made.BackIn ∷ [] else made.Closed ∷ []
+
+abbrev pub kinds_empty : {T : Type 0} → Bool → List (Kind T)
+kinds_empty withdraws = if withdraws then made.OverOut ∷ made.BackOut ∷ [] else made.NoItem ∷ []
+
+-- a refused claim, and whether it was withdrawn
+abbrev pub RefusesInsertionBy : {T : Type 0} → Bool → ℕ → SeatInfo (Mark T) → SeatInfo (Mark T) → InsertFault T → Type 0
+RefusesInsertionBy withdraws size old new (Worn y) = Unit {0}
+RefusesInsertionBy withdraws size old new (Closed y) = Makes size (kinds_closed withdraws) old new
+RefusesInsertionBy withdraws size old new (Full upper y) = Makes size (kinds_full withdraws) old new
+
+abbrev pub RefusesDeletionBy : {T : Type 0} → Bool → ℕ → SeatInfo (Mark T) → SeatInfo (Mark T) → DeleteFault → Type 0
+RefusesDeletionBy withdraws size old new deletion.Worn = Unit {0}
+RefusesDeletionBy withdraws size old new (deletion.Empty lower) = Makes size (kinds_empty withdraws) old new
 
 -- ---- opening
 

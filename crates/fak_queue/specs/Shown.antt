@@ -16,8 +16,8 @@ use Rattle.fak_core.specs.QueueMoves.{QueueState}
 use Rattle.fak_core.specs.QueueProgress.{AreIdleFrom}
 use Rattle.fak_core.specs.QueueSchedule.{InCell, IsReached}
 use Rattle.fak_core.specs.QueueBlocks.{Posts}
-use Rattle.fak_queue.specs.declared.standing.Standing.{Standing}
-use Rattle.fak_queue.specs.declared.standing.Standing.TheVariants.{Alike, Each}
+use Rattle.fak_queue.specs.declared.phases.Phases.{Phases}
+use Rattle.fak_queue.specs.declared.phases.Phases.TheVariants.{Alike, Each}
 use Rattle.fak_queue.specs.declared.limits.QueueLimits.{QueueLimits}
 use Rattle.fak_model.specs.declared.note.Note.{Note}
 use Rattle.fak_queue.specs.Words.{AreWords}
@@ -25,7 +25,7 @@ use Rattle.fak_queue.specs.Sleepers.{AreSleepers}
 
 -- what a seat of a queue knows, with the slots that it holds
 abbrev pub QueueView : Type 0 → Type 0
-QueueView T = View (Mark T) (Standing T)
+QueueView T = View (Mark T) (Phases T)
 
 abbrev pub QueueHolder : Type 0 → Type 0
 QueueHolder T = Me (Option T) (QueueView T)
@@ -36,7 +36,7 @@ IsPost n p [] = ⊥
 IsPost n p (s ∷ ss) = ((s.0 ≡ n) × (s.1 ≡ p)) ⊎ IsPost n p ss
 
 -- the phase of the name, as this standing states it
-abbrev pub StandsIn : {T : Type 0} → QueueState T → ℕ → Standing T → Type 0
+abbrev pub StandsIn : {T : Type 0} → QueueState T → ℕ → Phases T → Type 0
 StandsIn core n (Alike p) = core.phase n ≡ p
 StandsIn {T} core n (Each ps) = (p : Phase T) → IsPost n p ps → core.phase n ≡ p
 
@@ -71,7 +71,7 @@ pub record IsReachedBy {T : Type 0} (size seats : ℕ) (core : QueueState T) : T
   pub beyond : AreIdleFrom seats core
 
 -- a queue of this size with these seats; at most 2^50 tickets are ever drawn
-abbrev pub queue_object : {T : Type 0} → ℕ → ℕ → Object (Mark T) Word WholeCall (Standing T) (QueueState T) (Option T)
+abbrev pub queue_object : {T : Type 0} → ℕ → ℕ → Object (Mark T) Word WholeCall (Phases T) (QueueState T) (Option T)
 queue_object {T} size seats = record {
   rules = queue_rules size;
   seats = seats;
@@ -90,5 +90,5 @@ abbrev pub opened_queue : {T : Type 0} → QueueLimits → QueueView T
 opened_queue key = opened (Alike Idle) key.seats (key.seats * key.stint)
 
 -- a step that leaves all names of the view at this phase
-abbrev pub Leaves : {T : Type 0} → Object (Mark T) Word WholeCall (Standing T) (QueueState T) (Option T) → QueueHolder T → List (Mark T) → Phase T → ℕ → List (ℕ × Option T) → (List (Mark T) → Type 0) → QueueHolder T → Type 0
+abbrev pub Leaves : {T : Type 0} → Object (Mark T) Word WholeCall (Phases T) (QueueState T) (Option T) → QueueHolder T → List (Mark T) → Phase T → ℕ → List (ℕ × Option T) → (List (Mark T) → Type 0) → QueueHolder T → Type 0
 Leaves object m new p left carried tells after = Left object m new (Alike p) left carried tells after

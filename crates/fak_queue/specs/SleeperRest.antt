@@ -12,7 +12,7 @@ use Rattle.fak_channel_core.specs.SleeperSides.{Awake, Asleep}
 use Rattle.fak_channel_core.specs.SleeperMoves.{Account}
 use Rattle.fak_queue.specs.declared.limits.QueueLimits.{QueueLimits}
 use Rattle.fak_queue.specs.declared.role.Role.{Role}
-use Rattle.fak_queue.specs.declared.standing.Standing.TheVariants.{Alike}
+use Rattle.fak_queue.specs.declared.phases.Phases.TheVariants.{Alike}
 use Rattle.fak_queue.specs.Accounts.{account_of, kinds_by}
 use Rattle.fak_queue.specs.Shown.{QueueView}
 use Rattle.fak_queue.specs.Sleepers.{duty_as, is_set}

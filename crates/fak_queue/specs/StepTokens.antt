@@ -6,8 +6,8 @@ use Rattle.fak_model.specs.Views.{HasOneName}
 use Rattle.fak_core.specs.declared.queue.phase.Phase.{Phase}
 use Rattle.fak_core.specs.declared.queue.phase.Phase.TheVariants.{StoreItem}
 use Rattle.fak_queue.specs.declared.limits.QueueLimits.{QueueLimits}
-use Rattle.fak_queue.specs.declared.place.Place.{Place}
-use Rattle.fak_queue.specs.declared.standing.Standing.TheVariants.{Alike}
+use Rattle.fak_queue.specs.declared.ticket_cell.TicketCell.{TicketCell}
+use Rattle.fak_queue.specs.declared.phases.Phases.TheVariants.{Alike}
 use Rattle.fak_queue.specs.Shown.{QueueHolder, QueueView}
 use Rattle.fak_queue.specs.Steps.{FitsTable, IsPlace, Named}
 
@@ -23,7 +23,7 @@ abbrev pub StandsWithItem : {T : Type 0} → (T → Phase T) → QueueHolder T �
 StandsWithItem {T} phase_of me = (x : T) × StandsAt (phase_of x) me
 
 -- the seat is to make the cell of this place full, and has its slot with the item
-abbrev pub StoresItem : {T : Type 0} → Place → QueueHolder T → Type 0
+abbrev pub StoresItem : {T : Type 0} → TicketCell → QueueHolder T → Type 0
 StoresItem {T} at me = (x : T) × (me.0.phase ≡ Some (Alike (StoreItem at.ticket x))) × ((others : List (ℕ × Option T)) × (me.1 ≡ (at.cell, Some x) ∷ others))
 
 -- the token belongs to this table, which was made with this key for this many seats. It is the token of one seat; `stands` holds
@@ -41,14 +41,14 @@ pub record IsFreeToken {T : Type 0} (id : TableId) (key : QueueLimits) (seats : 
   pub phase : stands token.me
 
 -- the token of one seat, whose ticket has this place
-pub record IsTokenAt {T : Type 0} (id : TableId) (key : QueueLimits) (seats : ℕ) (at : Place) (stands : QueueHolder T → Type 0) (token : QueueToken T) : Type 0 where
+pub record IsTokenAt {T : Type 0} (id : TableId) (key : QueueLimits) (seats : ℕ) (at : TicketCell) (stands : QueueHolder T → Type 0) (token : QueueToken T) : Type 0 where
   pub table : FitsTable token.table_id id key seats
   pub place : IsPlace id.slots at
   pub seat : HasOneName token.me.0
   pub phase : stands token.me
 
 -- the same, and has no slot
-pub record IsFreeTokenAt {T : Type 0} (id : TableId) (key : QueueLimits) (seats : ℕ) (at : Place) (stands : QueueHolder T → Type 0) (token : QueueToken T) : Type 0 where
+pub record IsFreeTokenAt {T : Type 0} (id : TableId) (key : QueueLimits) (seats : ℕ) (at : TicketCell) (stands : QueueHolder T → Type 0) (token : QueueToken T) : Type 0 where
   pub table : FitsTable token.table_id id key seats
   pub place : IsPlace id.slots at
   pub seat : HasOneName token.me.0

@@ -3,7 +3,7 @@
 ghost use Rattle.std.specs.Prelude.{◌≡◌, ◌+◌, ◌<◌, length};
 ghost use Rattle.fak_queue.specs.BundleCalls.{IsBundleState, drawn_by_all};
 ghost use Rattle.fak_queue.specs.Queues.{AreIdle};
-ghost use Rattle.fak_queue.specs.declared.bundle.BundleState.TheVariants.{Deleting, Idle, Inserting};
+ghost use Rattle.fak_queue.specs.declared.bundle.BundleState.TheVariants.{Idle};
 
 use crate::contention::SharedCounts;
 use crate::steps::QueueToken;
@@ -37,34 +37,15 @@ pub enum BundleState {
 }
 
 impl BundleState {
-    /// The state once this many insertions of a burst have ended.
-    pub(crate) fn inserting(ticket: u64, ended: u64, granted: u64) -> BundleState
+    /// This state of an open burst, or idle once all granted calls have ended.
+    pub(crate) fn unless_ended(self, ended: u64, granted: u64) -> BundleState
         ensures all { ended ≡ granted → result ≡ Idle }
-        ensures some { ended < granted → result ≡ Inserting ticket ended granted }
+        ensures some { ended < granted → result ≡ self }
     {
         if ended == granted {
             return BundleState::Idle;
         }
-        BundleState::Inserting {
-            ticket,
-            ended,
-            granted,
-        }
-    }
-
-    /// The state once this many deletions of a burst have ended.
-    pub(crate) fn deleting(ticket: u64, ended: u64, granted: u64) -> BundleState
-        ensures all { ended ≡ granted → result ≡ Idle }
-        ensures some { ended < granted → result ≡ Deleting ticket ended granted }
-    {
-        if ended == granted {
-            return BundleState::Idle;
-        }
-        BundleState::Deleting {
-            ticket,
-            ended,
-            granted,
-        }
+        self
     }
 }
 

@@ -183,7 +183,12 @@ impl<T: Drop> Queue<T> {
             granted,
         };
         let done = take_ready(&self.table.shared, &mut bundle.token, &at, out);
-        bundle.state = BundleState::deleting(ticket, done, granted);
+        let open = BundleState::Deleting {
+            ticket,
+            ended: done,
+            granted,
+        };
+        bundle.state = open.unless_ended(done, granted);
         granted - done
     }
 

@@ -189,7 +189,12 @@ impl<T: Drop> Queue<T> {
             granted,
         };
         let done = fill_ready(&self.table.shared, &mut bundle.token, &at, &mut bundle.kept);
-        bundle.state = BundleState::inserting(ticket, done, granted);
+        let open = BundleState::Inserting {
+            ticket,
+            ended: done,
+            granted,
+        };
+        bundle.state = open.unless_ended(done, granted);
         granted - done
     }
 

@@ -18,6 +18,7 @@ ghost use Rattle.fak_queue.specs.declared.state.SeatState.TheVariants as seat_is
 use crate::bundle::{Bundle, BundleState};
 use crate::contention::SharedCounts;
 use crate::fault::BundleFault;
+use crate::parts::SeatParts;
 use crate::queue::Queue;
 use crate::resting::{join_rested, rest};
 use crate::seat::Seat;
@@ -141,7 +142,7 @@ fn names_of_seats<T>(alloc: Global, seats: &[Seat<T>]) -> Result<Vec<u64>, Alloc
 {
     let mut names = Vec::with_capacity(alloc, seats.len())?;
     for seat in seats {
-        names.push(seat.name)?;
+        names.push(seat.parts.name())?;
     }
     Ok(names)
 }
@@ -159,14 +160,15 @@ fn part_of<T: Drop>(seat: Seat<T>) -> Part<T>
     requires { state_of seat ≡ seat_is.Idle }
     ensures { IsTokenOfSeat seat result.token.table_id result.seats result.left result.token.me }
 {
-    let Seat {
+    let Seat { parts } = seat;
+    let SeatParts {
         token,
         name: _,
         seats,
         left,
         phase: _,
         counts: _,
-    } = seat;
+    } = parts;
     Part { token, seats, left }
 }
 
@@ -232,7 +234,7 @@ fn deal_out<T: Drop>(queue: &Queue<T>, bundle: Bundle<T>, mut dealt: Vec<Seat<T>
     let mut others = names.len() as u64;
     for name in names {
         let share = left / others;
-        let seat = Seat {
+        let parts = SeatParts {
             token: words.split_seat::<Deal>(&mut token),
             name,
             seats,
@@ -242,7 +244,7 @@ fn deal_out<T: Drop>(queue: &Queue<T>, bundle: Bundle<T>, mut dealt: Vec<Seat<T>
         };
         left -= share;
         others -= 1;
-        if dealt.push(seat).is_err() {
+        if dealt.push(Seat { parts }).is_err() {
             unreachable!()
         }
     }

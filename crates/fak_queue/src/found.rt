@@ -7,7 +7,7 @@ ghost use Rattle.fak_queue.specs.Parts.{burst_fault_of, fault_of};
 use crate::fault::{BurstFault, InsertFault};
 
 /// Why a load of the upper count's word, or an add to it, found no room for an insertion.
-#[derive(Clone, Copy, Drop)]
+#[derive(Clone, Copy, Debug, PartialEq, Eq, Drop)]
 pub enum NoRoom {
     /// The upper count, which was at least the queue's size.
     Full(i64),

@@ -2,6 +2,7 @@
 
 pub mod bundles;
 pub mod examples;
+pub mod looks;
 pub mod sleepers;
 
 ghost use Rattle.std.specs.Prelude.{◌≡◌, ◌≢◌, ℕ, ◌<◌, ◌≤◌, ◌↔◌, List, [], Option, slice_index};

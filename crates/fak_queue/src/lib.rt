@@ -10,6 +10,8 @@
 //! - `Bundle::of(alloc, &queue, seats)` is several seats that call together: `insert_burst` and `delete_burst` claim for several
 //!   items at once, and have forms that wait, and forms that never do.
 //! - `shut` refuses later insertions; deletions go on. `cells_in_use`, `items_ready` and `is_drained` observe the counts.
+//! - `Queue::open_sleepers` opens a queue whose seats can sleep: a `SleeperSeat` also has the steps of a channel's end on the bits of
+//!   sleepers in the queue's table.
 //! - `Tally::of(seat)` and `Queue::join` bring the seats back together; with all of them `Queue::close` returns a `Rest`, what is left.
 //! - Callers owe that a seat belongs to this queue and is idle: `IsIdleSeat queue.now.object seat`.
 //! - To cite: `Inserts`, `Deletes` and their like (`specs/Queues.antt`, `specs/Retries.antt`), and the laws of `fak_model::laws`.
@@ -32,7 +34,9 @@ pub mod laws;
 mod limits;
 mod observing;
 mod opening;
-mod place;
+mod parts;
+mod parts_calls;
+mod phases;
 mod plays;
 mod port;
 mod queue;
@@ -41,11 +45,15 @@ mod resting;
 mod role;
 mod rule;
 mod seat;
-mod standing;
+mod sleeper_calls;
+mod sleeper_seat;
+mod sleeper_steps;
 mod state;
 mod steps;
 mod tally;
+mod ticket_cell;
 mod turns;
+mod undealt;
 mod words;
 
 pub use bundle::{Bundle, BundleState};
@@ -54,10 +62,14 @@ pub use fak_model::{
     LARGE_SEATS, LARGE_SIZE, LARGE_TICKETS, LARGEST_SIZE, LONGEST_STINT, LargeFault, MOST_SEATS,
 };
 pub use fault::{BundleFault, BurstFault, DeleteFault, InsertFault, OpenFault};
+pub use found::NoRoom;
 pub use in_use::InUse;
 pub use port::Port;
 pub use queue::Queue;
 pub use rest::Rest;
+pub use role::Role;
 pub use seat::Seat;
+pub use sleeper_seat::SleeperSeat;
 pub use state::SeatState;
 pub use tally::Tally;
+pub use undealt::UndealtSeats;

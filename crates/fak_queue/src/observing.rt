@@ -9,8 +9,6 @@ ghost use Rattle.fak_queue.specs.Queues.{Makes, drawn_by, state_of};
 use crate::in_use::InUse;
 use crate::queue::Queue;
 use crate::seat::Seat;
-use crate::steps::observation::{observe_low, observe_up};
-use std::marker::Brand;
 
 impl<T: Drop> Queue<T> {
     /// How many cells are in use, and whether the queue is shut: one load, which waits for nobody. The seat may be in a call.
@@ -23,7 +21,7 @@ impl<T: Drop> Queue<T> {
         ensures count { result.count ≡ upper_count seat.new.seen }
         ensures shut { IsTrue result.is_shut ↔ Has Close seat.new.seen }
     {
-        observe_up::<T, Brand>(&self.table.shared, &mut seat.token)
+        self.cells_in_use_by(&mut seat.parts)
     }
 
     /// How many items are ready: insertions that have ended, minus the deletions begun and not withdrawn. One load, which waits
@@ -36,7 +34,7 @@ impl<T: Drop> Queue<T> {
         ensures makes { Makes self.now.size [] seat.old seat.new }
         ensures count { result ≡ lower_count seat.new.seen }
     {
-        observe_low::<T, Brand>(&self.table.shared, &mut seat.token)
+        self.items_ready_by(&mut seat.parts)
     }
 
     /// Whether the queue is shut with no cell in use. Then no deletion finds an item from now on

@@ -7,8 +7,8 @@ ghost use Rattle.fak_queue.specs.Shown.{opened_queue};
 
 use crate::fault::OpenFault;
 use crate::limits::QueueLimits;
+use crate::phases::Phases;
 use crate::rule::QueueRule;
-use crate::standing::Standing;
 use crate::steps::QueueToken;
 use crate::words::{LOWER, MARGIN, TURNS, UPPER};
 use atomic_table::Table;
@@ -49,7 +49,7 @@ pub(crate) fn tested_large_limits(size: u64, seats: u64, stint: u64) -> Result<(
 /// The table of a queue of such items.
 pub(crate) type QueueTable<T> = Table<
     Option<T>,
-    View<Mark<T>, Standing<T>>,
+    View<Mark<T>, Phases<T>>,
     QueueLimits,
     QueueRule,
     Global,

@@ -24,7 +24,7 @@ ghost use Rattle.fak_queue.specs.Steps.{
 };
 ghost use Rattle.fak_queue.specs.Bundling.{Settles};
 
-use crate::standing::Standing;
+use crate::phases::Phases;
 use atomic_table::Play;
 use fak_model::{Mark, View};
 use std::marker::{Brand, PhantomData};
@@ -47,7 +47,7 @@ pub struct TestUpPlay<J> {
     call: PhantomData<J>,
 }
 
-impl<T, J: Call<T>> Play<Option<T>, View<Mark<T>, Standing<T>>> for TestUpPlay<J> {
+impl<T, J: Call<T>> Play<Option<T>, View<Mark<T>, Phases<T>>> for TestUpPlay<J> {
     ghost then = { λ s m found after. Named m (λ n. TestsUp s.slots J.seats n J.item m found after) };
 }
 
@@ -56,7 +56,7 @@ pub struct AddUpPlay<J> {
     call: PhantomData<J>,
 }
 
-impl<T, J: Call<T>> Play<Option<T>, View<Mark<T>, Standing<T>>> for AddUpPlay<J> {
+impl<T, J: Call<T>> Play<Option<T>, View<Mark<T>, Phases<T>>> for AddUpPlay<J> {
     ghost then = { λ s m found after. Named m (λ n. AddsUp s.slots J.seats n m found after) };
 }
 
@@ -65,7 +65,7 @@ pub struct BackUpPlay<J> {
     call: PhantomData<J>,
 }
 
-impl<T, J: Call<T>> Play<Option<T>, View<Mark<T>, Standing<T>>> for BackUpPlay<J> {
+impl<T, J: Call<T>> Play<Option<T>, View<Mark<T>, Phases<T>>> for BackUpPlay<J> {
     ghost then = { λ s m _ after. Named m (λ n. BacksUp s.slots J.seats n m after) };
 }
 
@@ -74,7 +74,7 @@ pub struct TicketInPlay<J> {
     call: PhantomData<J>,
 }
 
-impl<T, J: Call<T>> Play<Option<T>, View<Mark<T>, Standing<T>>> for TicketInPlay<J> {
+impl<T, J: Call<T>> Play<Option<T>, View<Mark<T>, Phases<T>>> for TicketInPlay<J> {
     ghost then = { λ s m found after. Named m (λ n. DrawsIn s.slots J.seats n m found after) };
 }
 
@@ -83,7 +83,7 @@ pub struct TurnInPlay<J> {
     call: PhantomData<J>,
 }
 
-impl<T, J: Call<T>> Play<Option<T>, View<Mark<T>, Standing<T>>> for TurnInPlay<J> {
+impl<T, J: Call<T>> Play<Option<T>, View<Mark<T>, Phases<T>>> for TurnInPlay<J> {
     ghost then = { λ s m found after. Named m (λ n. TurnsIn s.slots J.seats n m found after) };
 }
 
@@ -92,7 +92,7 @@ pub struct SetFullPlay<J> {
     call: PhantomData<J>,
 }
 
-impl<T, J: Call<T>> Play<Option<T>, View<Mark<T>, Standing<T>>> for SetFullPlay<J> {
+impl<T, J: Call<T>> Play<Option<T>, View<Mark<T>, Phases<T>>> for SetFullPlay<J> {
     ghost then = { λ s m _ after. Named m (λ n. SetsFull s.slots J.seats n m after) };
 }
 
@@ -101,7 +101,7 @@ pub struct EndInPlay<J> {
     call: PhantomData<J>,
 }
 
-impl<T, J: Call<T>> Play<Option<T>, View<Mark<T>, Standing<T>>> for EndInPlay<J> {
+impl<T, J: Call<T>> Play<Option<T>, View<Mark<T>, Phases<T>>> for EndInPlay<J> {
     ghost then = { λ s m _ after. Named m (λ n. EndsIn s.slots J.seats n m after) };
 }
 
@@ -110,7 +110,7 @@ pub struct TestLowPlay<J> {
     call: PhantomData<J>,
 }
 
-impl<T, J: Call<T>> Play<Option<T>, View<Mark<T>, Standing<T>>> for TestLowPlay<J> {
+impl<T, J: Call<T>> Play<Option<T>, View<Mark<T>, Phases<T>>> for TestLowPlay<J> {
     ghost then = { λ s m found after. Named m (λ n. TestsLow s.slots J.seats n m found after) };
 }
 
@@ -119,7 +119,7 @@ pub struct SubLowPlay<J> {
     call: PhantomData<J>,
 }
 
-impl<T, J: Call<T>> Play<Option<T>, View<Mark<T>, Standing<T>>> for SubLowPlay<J> {
+impl<T, J: Call<T>> Play<Option<T>, View<Mark<T>, Phases<T>>> for SubLowPlay<J> {
     ghost then = { λ s m found after. Named m (λ n. SubtractsLow s.slots J.seats n m found after) };
 }
 
@@ -128,7 +128,7 @@ pub struct BackLowPlay<J> {
     call: PhantomData<J>,
 }
 
-impl<T, J: Call<T>> Play<Option<T>, View<Mark<T>, Standing<T>>> for BackLowPlay<J> {
+impl<T, J: Call<T>> Play<Option<T>, View<Mark<T>, Phases<T>>> for BackLowPlay<J> {
     ghost then = { λ s m _ after. Named m (λ n. BacksLow s.slots J.seats n m after) };
 }
 
@@ -137,7 +137,7 @@ pub struct TicketOutPlay<J> {
     call: PhantomData<J>,
 }
 
-impl<T, J: Call<T>> Play<Option<T>, View<Mark<T>, Standing<T>>> for TicketOutPlay<J> {
+impl<T, J: Call<T>> Play<Option<T>, View<Mark<T>, Phases<T>>> for TicketOutPlay<J> {
     ghost then = { λ s m found after. Named m (λ n. DrawsOut s.slots J.seats n m found after) };
 }
 
@@ -146,7 +146,7 @@ pub struct TurnOutPlay<J> {
     call: PhantomData<J>,
 }
 
-impl<T, J: Call<T>> Play<Option<T>, View<Mark<T>, Standing<T>>> for TurnOutPlay<J> {
+impl<T, J: Call<T>> Play<Option<T>, View<Mark<T>, Phases<T>>> for TurnOutPlay<J> {
     ghost then = { λ s m found after. Named m (λ n. TurnsOut s.slots J.seats n m found after) };
 }
 
@@ -155,7 +155,7 @@ pub struct SetFreePlay<J> {
     call: PhantomData<J>,
 }
 
-impl<T, J: Call<T>> Play<Option<T>, View<Mark<T>, Standing<T>>> for SetFreePlay<J> {
+impl<T, J: Call<T>> Play<Option<T>, View<Mark<T>, Phases<T>>> for SetFreePlay<J> {
     ghost then = { λ s m _ after. Named m (λ n. SetsFree s.slots J.seats n m after) };
 }
 
@@ -164,7 +164,7 @@ pub struct EndOutPlay<J> {
     call: PhantomData<J>,
 }
 
-impl<T, J: Call<T>> Play<Option<T>, View<Mark<T>, Standing<T>>> for EndOutPlay<J> {
+impl<T, J: Call<T>> Play<Option<T>, View<Mark<T>, Phases<T>>> for EndOutPlay<J> {
     ghost then = { λ s m _ after. Named m (λ n. EndsOut s.slots J.seats n m after) };
 }
 
@@ -173,7 +173,7 @@ pub struct ShutPlay<J> {
     call: PhantomData<J>,
 }
 
-impl<T, J: Call<T>> Play<Option<T>, View<Mark<T>, Standing<T>>> for ShutPlay<J> {
+impl<T, J: Call<T>> Play<Option<T>, View<Mark<T>, Phases<T>>> for ShutPlay<J> {
     ghost then = { λ s m found after. Named m (λ n. Shuts s.slots J.seats n m found after) };
 }
 
@@ -182,7 +182,7 @@ pub struct ObserveUpPlay<J> {
     call: PhantomData<J>,
 }
 
-impl<T, J: Call<T>> Play<Option<T>, View<Mark<T>, Standing<T>>> for ObserveUpPlay<J> {
+impl<T, J: Call<T>> Play<Option<T>, View<Mark<T>, Phases<T>>> for ObserveUpPlay<J> {
     ghost then = { λ s m found after. ObservesUp s.slots J.seats m found after };
 }
 
@@ -191,7 +191,7 @@ pub struct ObserveLowPlay<J> {
     call: PhantomData<J>,
 }
 
-impl<T, J: Call<T>> Play<Option<T>, View<Mark<T>, Standing<T>>> for ObserveLowPlay<J> {
+impl<T, J: Call<T>> Play<Option<T>, View<Mark<T>, Phases<T>>> for ObserveLowPlay<J> {
     ghost then = { λ s m found after. ObservesLow s.slots J.seats m found after };
 }
 
@@ -200,7 +200,7 @@ pub struct SettlePlay<J> {
     call: PhantomData<J>,
 }
 
-impl<T, J: Call<T>> Play<Option<T>, View<Mark<T>, Standing<T>>> for SettlePlay<J> {
+impl<T, J: Call<T>> Play<Option<T>, View<Mark<T>, Phases<T>>> for SettlePlay<J> {
     ghost then = { λ s m _ after. Settles s.slots J.seats m after };
 }
 
@@ -209,6 +209,6 @@ pub struct HearPlay<J> {
     call: PhantomData<J>,
 }
 
-impl<T, J: Call<T>> Play<Option<T>, View<Mark<T>, Standing<T>>> for HearPlay<J> {
+impl<T, J: Call<T>> Play<Option<T>, View<Mark<T>, Phases<T>>> for HearPlay<J> {
     ghost then = { λ s m _ after. HeardJoin s.slots J.seats m after };
 }

@@ -13,22 +13,18 @@ ghost use Rattle.fak_queue.specs.Refusals.{IsInRange, IsLargeSize, IsOpenFault, 
 ghost use Rattle.fak_queue.specs.Retries.{DeletesAfterEmpty, InsertsAfterFull};
 ghost use Rattle.fak_queue.specs.Retries.{RefusesWaitingDeletion, RefusesWaitingInsertion};
 
-use crate::admission::{admit_deletion, admit_insertion};
 use crate::cells::Cells;
 use crate::contention::SharedCounts;
 use crate::fault::{DeleteFault, InsertFault, OpenFault};
-use crate::found::refuse_worn;
 use crate::limits::QueueLimits;
 use crate::opening::{empty_table, tested_large_limits, tested_limits};
+use crate::parts::SeatParts;
+use crate::phases::Phases;
 use crate::rest::Rest;
 use crate::rule::QueueRule;
 use crate::seat::Seat;
-use crate::standing::Standing;
-use crate::steps::{hear, shut};
+use crate::steps::hear;
 use crate::tally::Tally;
-use crate::turns::{
-    empty_cell, fill_cell_from, finds_item, finds_room, wait_to_empty, wait_to_fill,
-};
 use crate::words::{DRAWS_IN, DRAWS_OUT};
 use atomic_table::Table;
 use crossbeam_utils::Backoff;
@@ -43,7 +39,7 @@ use std::sync::Wait;
 /// no lock. Contracts see which object it is and its size.
 #[derive(Drop)]
 pub struct Queue<T> {
-    pub(crate) table: Table<Option<T>, View<Mark<T>, Standing<T>>, QueueLimits, QueueRule, Global>,
+    pub(crate) table: Table<Option<T>, View<Mark<T>, Phases<T>>, QueueLimits, QueueRule, Global>,
     pub(crate) cells: Cells,
 }
 
@@ -131,7 +127,7 @@ impl<T: Drop> Queue<T> {
             return Err(AllocError);
         };
         for name in 0..seats {
-            let seat = Seat {
+            let parts = SeatParts {
                 token: table.shared.split_seat::<Deal>(&mut rest),
                 name,
                 seats,
@@ -139,7 +135,7 @@ impl<T: Drop> Queue<T> {
                 phase: Phase::Idle,
                 counts: SharedCounts::new(stint),
             };
-            if dealt.push(seat).is_err() {
+            if dealt.push(Seat { parts }).is_err() {
                 return Err(AllocError);
             }
         }
@@ -167,22 +163,7 @@ impl<T: Drop> Queue<T> {
         ensures call { MatchResult result (λ k. Inserts self.now.size k item seat.old seat.new)
             (RefusesInsertion self.now.size item seat.old seat.new) }
     {
-        if seat.left == 0 {
-            return refuse_worn(item);
-        }
-        let size = self.cells.size;
-        seat.counts.pause_in_call(size, seat.left);
-        let words = &self.table.shared;
-        match admit_insertion(words, &mut seat.token, size, &mut seat.counts, &item) {
-            Ok(ticket) => {
-                seat.left -= 1;
-                seat.counts.expect_insertion();
-                let place = self.cells.place(ticket);
-                wait_to_fill(rt, words, &mut seat.token, place, item);
-                Ok(ticket)
-            }
-            Err(reason) => reason.refuse(item),
-        }
+        self.insert_by(rt, &mut seat.parts, item)
     }
 
     /// Deletes the oldest item by one attempt: one claim, and if it is granted, tries until it is the cell's turn.
@@ -200,20 +181,7 @@ impl<T: Drop> Queue<T> {
         ensures call { MatchResult result (λ r. Deletes self.now.size r.0 r.1 seat.old seat.new)
             (RefusesDeletion self.now.size seat.old seat.new) }
     {
-        if seat.left == 0 {
-            return Err(DeleteFault::Worn);
-        }
-        seat.counts.pause_in_call(self.cells.size, seat.left);
-        let words = &self.table.shared;
-        match admit_deletion(words, &mut seat.token, &mut seat.counts) {
-            Ok(ticket) => {
-                seat.left -= 1;
-                seat.counts.expect_deletion();
-                let place = self.cells.place(ticket);
-                Ok((ticket, wait_to_empty(rt, words, &mut seat.token, place)))
-            }
-            Err(lower) => Err(DeleteFault::Empty(lower)),
-        }
+        self.delete_by(rt, &mut seat.parts)
     }
 
     /// Inserts the item, and tries again while the queue is full. Returns the ticket.
@@ -288,25 +256,7 @@ impl<T: Drop> Queue<T> {
         ensures call { MatchResult result (λ k. ClaimsIn self.now.size k item seat.old seat.new)
             (RefusesInsertion self.now.size item seat.old seat.new) }
     {
-        if seat.left == 0 {
-            return refuse_worn(item);
-        }
-        let words = &self.table.shared;
-        match admit_insertion(
-            words,
-            &mut seat.token,
-            self.cells.size,
-            &mut seat.counts,
-            &item,
-        ) {
-            Ok(ticket) => {
-                seat.left -= 1;
-                seat.counts.expect_insertion();
-                seat.phase = Phase::TurnIn(ticket, item);
-                Ok(ticket)
-            }
-            Err(reason) => reason.refuse(item),
-        }
+        self.claim_insert_by(&mut seat.parts, item, &mut false)
     }
 
     /// If it is the cell's turn, moves the item into it, ends the insertion and returns its ticket. Else the seat is as
@@ -320,16 +270,7 @@ impl<T: Drop> Queue<T> {
         ensures call { (k : ℕ) → state_of seat.old ≡ Inserting k → MatchOption result
             (WaitsToFill self.now.size k seat.old seat.new) (λ j. (j ≡ k) × Fills self.now.size k seat.old seat.new) }
     {
-        let Phase::TurnIn(ticket, _) = seat.phase else {
-            unreachable!()
-        };
-        let place = self.cells.place(ticket);
-        if !finds_room(&self.table.shared, &mut seat.token, place) {
-            return None;
-        }
-        let words = &self.table.shared;
-        fill_cell_from(words, &mut seat.token, place, &mut seat.phase);
-        Some(ticket)
+        self.try_fill_by(&mut seat.parts)
     }
 
     /// Claims an item and draws its ticket. `try_take` then hands the item out.
@@ -346,19 +287,7 @@ impl<T: Drop> Queue<T> {
         ensures call { MatchResult result (λ k. ClaimsOut self.now.size k seat.old seat.new)
             (RefusesDeletion self.now.size seat.old seat.new) }
     {
-        if seat.left == 0 {
-            return Err(DeleteFault::Worn);
-        }
-        let words = &self.table.shared;
-        match admit_deletion(words, &mut seat.token, &mut seat.counts) {
-            Ok(ticket) => {
-                seat.left -= 1;
-                seat.counts.expect_deletion();
-                seat.phase = Phase::TurnOut(ticket);
-                Ok(ticket)
-            }
-            Err(lower) => Err(DeleteFault::Empty(lower)),
-        }
+        self.claim_delete_by(&mut seat.parts, &mut false)
     }
 
     /// If it is the cell's turn, moves the item out of it, ends the deletion and returns its ticket and the item. Else
@@ -373,18 +302,7 @@ impl<T: Drop> Queue<T> {
             (WaitsToTake self.now.size k seat.old seat.new)
             (λ r. (r.0 ≡ k) × Takes self.now.size k r.1 seat.old seat.new) }
     {
-        let Phase::TurnOut(ticket) = seat.phase else {
-            unreachable!()
-        };
-        let place = self.cells.place(ticket);
-        if !finds_item(&self.table.shared, &mut seat.token, place) {
-            return None;
-        }
-        seat.phase = Phase::Idle;
-        Some((
-            ticket,
-            empty_cell(&self.table.shared, &mut seat.token, place),
-        ))
+        self.try_take_by(&mut seat.parts)
     }
 
     /// Leaves the queue to others for a while, if a call of the seat has found that they use it too. The seat must have drawn
@@ -396,7 +314,7 @@ impl<T: Drop> Queue<T> {
     pub fn pause(&self, seat: &mut Seat<T>)
         ensures { seat.new ≡ seat.old }
     {
-        seat.counts.pause_if_contended(self.cells.size, seat.left);
+        self.pause_by(&mut seat.parts);
     }
 
     /// Shuts the queue: insertions are refused from now on, deletions go on. Returns whether it was open before.
@@ -408,7 +326,7 @@ impl<T: Drop> Queue<T> {
         ensures left { drawn_by seat.new ≡ drawn_by seat.old }
         ensures call { ShutsAs self.now.size result seat.old seat.new }
     {
-        shut::<T, Brand>(&self.table.shared, &mut seat.token)
+        self.shut_by(&mut seat.parts)
     }
 
     /// The tally with one more seat.
@@ -423,14 +341,15 @@ impl<T: Drop> Queue<T> {
             mut names,
             seats,
         } = tally;
-        let Seat {
+        let Seat { parts } = seat;
+        let SeatParts {
             token: other,
             name,
             seats: _,
             left: _,
             phase: _,
             counts: _,
-        } = seat;
+        } = parts;
         self.table.shared.join_seat::<Both>(&mut token, other);
         hear::<T, Brand>(&self.table.shared, &mut token);
         names.insert(name);

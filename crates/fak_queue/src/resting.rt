@@ -6,7 +6,7 @@ ghost use Rattle.fak_model.specs.Tokens.{IsTallyToken};
 ghost use Rattle.fak_core.specs.declared.queue.phase.Phase.TheVariants.{Idle};
 ghost use Rattle.fak_queue.specs.Bundling.{JoinsTo, Settles, StaysAtRest};
 ghost use Rattle.fak_queue.specs.Queues.{seat_of};
-ghost use Rattle.fak_queue.specs.declared.standing.Standing.TheVariants.{Alike};
+ghost use Rattle.fak_queue.specs.declared.phases.Phases.TheVariants.{Alike};
 ghost use Rattle.fak_queue.specs.StepTokens.{StandsAt};
 ghost use Rattle.fak_queue.specs.BurstTokens.{IsBundleToken, TellsAll};
 

@@ -1,6 +1,6 @@
-//! The two sides of a channel. Only the proofs and the steps on the bits use them.
+//! The two sides of a channel.
 
-/// The role in which an end sleeps or looks for a sleeper: which side's bits a step is about.
+/// The role in which a seat sleeps or looks for a sleeper: which side's bits a step is about.
 #[derive(Clone, Copy, Debug, PartialEq, Eq, Drop)]
 pub enum Role {
     /// The bits of the senders that sleep.

@@ -3,10 +3,8 @@
 ghost use Rattle.std.specs.Prelude.{◌≡◌, ◌+◌};
 ghost use Rattle.fak_queue.specs.Queues.{IsState, drawn_by, state_of};
 
-use crate::contention::SharedCounts;
+use crate::parts::SeatParts;
 use crate::state::SeatState;
-use crate::steps::QueueToken;
-use fak_core::Phase;
 use std::fmt;
 use std::marker::Model;
 
@@ -14,24 +12,16 @@ use std::marker::Model;
 /// fills the cell it keeps the item. Contracts see its object, its name, its stint and the history that it has seen.
 #[derive(Drop)]
 pub struct Seat<T> {
-    pub(crate) token: QueueToken<T>,
-    pub(crate) name: u64,
-    pub(crate) seats: u64,
-    pub(crate) left: u64,
-    pub(crate) phase: Phase<T>,
-    pub(crate) counts: SharedCounts,
+    pub(crate) parts: SeatParts<T>,
 }
 
 impl<T> Model for Seat<T> {
     ghost use Rattle.fak_model.specs.declared.queue.Mark.{Mark};
-    ghost use Rattle.fak_model.specs.Calls.{SeatInfo, object_id};
-    ghost use Rattle.fak_queue.specs.Queues.{IsQueueSeat, queue_seat};
+    ghost use Rattle.fak_model.specs.Calls.{SeatInfo};
 
     ghost Value = { SeatInfo (Mark T) };
 
-    ghost view = { λ s. queue_seat (object_id s.token.table_id s.seats) s.name s.left s.token.me };
-
-    ghost invariant = { λ s. IsQueueSeat s.token.table_id.slots s.seats s.name s.phase s.left s.token.me };
+    ghost view = { λ s. s.parts.seat };
 }
 
 impl<T> Seat<T> {
@@ -40,19 +30,14 @@ impl<T> Seat<T> {
         ensures value { result ≡ state_of self.now }
         ensures read_off_seen { IsState self.now result }
     {
-        match self.phase {
-            Phase::Idle => SeatState::Idle,
-            Phase::TurnIn(ticket, _) => SeatState::Inserting(ticket),
-            Phase::TurnOut(ticket) => SeatState::Deleting(ticket),
-            _ => unreachable!(),
-        }
+        self.parts.state()
     }
 
     /// How many tickets are left of the stint.
     pub fn left(&self) -> u64
         ensures { result + drawn_by self.now ≡ self.now.stint }
     {
-        self.left
+        self.parts.left()
     }
 
     /// Sets whether `insert`, `delete` and the calls that wait begin with `Queue::pause`. At first they do, which raises
@@ -60,16 +45,16 @@ impl<T> Seat<T> {
     pub fn set_pauses_in_calls(&mut self, pauses: bool)
         ensures { self.new ≡ self.old }
     {
-        self.counts.pauses_in_calls = pauses;
+        self.parts.set_pauses_in_calls(pauses);
     }
 }
 
 impl<T> fmt::Debug for Seat<T> {
     fn fmt<W: fmt::Write>(&self, f: &mut fmt::Formatter<W>) -> fmt::Result {
         f.debug_struct("Seat")
-            .field("name", &self.name)
+            .field("name", &self.parts.name())
             .field("state", &self.state())
-            .field("left", &self.left)
+            .field("left", &self.left())
             .finish_non_exhaustive()
     }
 }

@@ -12,23 +12,18 @@ ghost use Rattle.fak_queue.specs.StepTokens.{IsTokenOf, StandsAt, Tells};
 ghost use Rattle.fak_queue.specs.BurstTokens.{TellsAll};
 
 use crate::limits::QueueLimits;
+use crate::phases::Phases;
 use crate::plays::{Call, HearPlay, ShutPlay};
 use crate::rule::QueueRule;
-use crate::standing::Standing;
 use crate::words::{SHUT, UPPER};
 use atomic_table::Shared;
 use fak_model::{Mark, View};
 
 /// A seat at a queue's table.
-pub(crate) type QueueToken<T> = atomic_table::Seat<Option<T>, View<Mark<T>, Standing<T>>>;
+pub(crate) type QueueToken<T> = atomic_table::Seat<Option<T>, View<Mark<T>, Phases<T>>>;
 
 /// The words and the slots of a queue.
-pub(crate) type QueueWords<T> = Shared<
-    Option<T>,
-    View<Mark<T>, Standing<T>>,
-    QueueLimits,
-    QueueRule,
->;
+pub(crate) type QueueWords<T> = Shared<Option<T>, View<Mark<T>, Phases<T>>, QueueLimits, QueueRule>;
 
 /// Sets the shut bit, and returns whether it was not set before. It comes between two calls of the seat. It is
 /// one fetch-and-or, so that only the first to shut the queue finds the bit unset, and no count changes.

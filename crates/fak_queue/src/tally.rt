@@ -8,6 +8,7 @@ ghost use Rattle.fak_model.specs.Calls.{tally_of};
 ghost use Rattle.fak_queue.specs.declared.state.SeatState.TheVariants.{Idle};
 ghost use Rattle.fak_queue.specs.Queues.{seat_of, size_of, state_of};
 
+use crate::parts::SeatParts;
 use crate::seat::Seat;
 use crate::steps::QueueToken;
 use fak_model::NameSet;
@@ -45,14 +46,15 @@ impl<T: Drop> Tally<T> {
         ensures lawful { IsQueueHistory (size_of result.object) result.seen }
         ensures named { AreNamed (queue_rules (size_of result.object)) result.object.seats result.seen }
     {
-        let Seat {
+        let Seat { parts } = seat;
+        let SeatParts {
             token,
             name,
             seats,
             left: _,
             phase: _,
             counts: _,
-        } = seat;
+        } = parts;
         Tally {
             token,
             names: NameSet::of(name),

@@ -1,7 +1,7 @@
 //! An end of a channel, and its calls by steps.
 
 use super::pause::Pause;
-use super::token::{is_over, Token};
+use super::token::Token;
 use super::words::Words;
 use crate::raw::{self, Handle};
 use std::time::Instant;
@@ -76,39 +76,27 @@ impl End {
 
     /// Sends the item of the words. If it is refused, they own it again.
     pub(super) fn send(&mut self, tokens: &[Token], words: &mut Words, patience: Patience) -> Result<(), Refusal> {
-        let tries = |end: &mut Handle| unsafe { raw::fak_channel_begin_try_send(end, words) };
-        let begins = |end: &mut Handle| unsafe { raw::fak_channel_begin_send(end, words) };
-        self.begin(patience, tries, begins)?;
+        outcome(unsafe {
+            if patience.is_never() {
+                raw::fak_channel_begin_try_send(&mut self.handle, words)
+            } else {
+                raw::fak_channel_begin_send(&mut self.handle, words)
+            }
+        })?;
         self.finish(tokens, words, patience)
     }
 
     /// Receives an item. Returns its words.
     pub(super) fn receive(&mut self, tokens: &[Token], patience: Patience) -> Result<Words, Refusal> {
-        let tries = |end: &mut Handle| unsafe { raw::fak_channel_begin_try_receive(end) };
-        let begins = |end: &mut Handle| unsafe { raw::fak_channel_begin_receive(end) };
-        self.begin(patience, tries, begins)?;
+        outcome(unsafe {
+            if patience.is_never() {
+                raw::fak_channel_begin_try_receive(&mut self.handle)
+            } else {
+                raw::fak_channel_begin_receive(&mut self.handle)
+            }
+        })?;
         let mut words = Words::empty();
         self.finish(tokens, &mut words, patience).map(|()| words)
-    }
-
-    // Begins a call. One that may sleep is tried for a while first: a sleeper costs more than a look, and costs others too.
-    fn begin(
-        &mut self,
-        patience: Patience,
-        tries: impl Fn(&mut Handle) -> i32,
-        begins: impl FnOnce(&mut Handle) -> i32,
-    ) -> Result<(), Refusal> {
-        let mut pause = Pause::new();
-        loop {
-            match outcome(tries(&mut self.handle)) {
-                Err(Refusal::GaveUp) if !patience.is_never() => {}
-                begun => return begun,
-            }
-            if pause.is_long() || is_over(patience.until()) {
-                return outcome(begins(&mut self.handle));
-            }
-            pause.pause();
-        }
     }
 
     /// Closes the channel. Refused if it was closed before.

@@ -83,7 +83,7 @@ static void a_close_wakes_by_steps(void) {
 
 enum { STINT = 5 };
 
-/* Sends, or receives, until the stint has run out: in no more calls than it has. */
+/* Sends, or receives, until the stint has run out: it is the number of calls. */
 static void wear_out(fak_c_seat *end, bool sends) {
     fak_channel_item item = none;
     int32_t code = FAK_C_OK;
@@ -94,12 +94,13 @@ static void wear_out(fak_c_seat *end, bool sends) {
         if (code == FAK_C_OK)
             code = run(end, &item);
     }
-    CHECK(code == FAK_C_WORN && calls >= 1 && calls <= STINT);
+    CHECK(code == FAK_C_WORN && calls == STINT);
 }
 
-/* The stints of senders run out, and then that of a receiver, which doesn't get all. */
+/* The stints of senders run out, and then that of a receiver, which doesn't get all. A close needs no stint. */
 static void stints_run_out(void) {
     fak_c_seat ends[ENDS] = {0};
+    fak_channel_item unused = none;
     uint64_t number = 0, left = 99;
     uint32_t state = 0;
     CHECK(fak_channel_open(ends, ENDS, 100, STINT) == FAK_C_OK);
@@ -108,7 +109,7 @@ static void stints_run_out(void) {
     wear_out(&ends[0], false);
     CHECK(fak_channel_begin_send(&ends[1], &seven) == FAK_C_WORN && fak_channel_begin_try_send(&ends[1], &seven) == FAK_C_WORN);
     CHECK(fak_channel_begin_try_receive(&ends[0]) == FAK_C_WORN && fak_channel_begin_receive(&ends[0]) == FAK_C_WORN);
-    CHECK(fak_channel_begin_close(&ends[0]) == FAK_C_WORN);
+    CHECK(fak_channel_begin_close(&ends[0]) == FAK_C_OK && run(&ends[0], &unused) == FAK_C_OK);
     CHECK(fak_channel_state(&ends[0], &number, &state, &left) == FAK_C_OK && left == 0);
     leave_all(ends);
 }

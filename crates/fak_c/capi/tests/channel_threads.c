@@ -338,14 +338,17 @@ static void start(sleeper *sleepers, fak_channel_end *ends, size_t count, bool s
     CHECK(nanosleep(&(struct timespec){0, 5 * A_WHILE}, NULL) == 0);
 }
 
-/* Every call returned this code, and took little processor time while it slept. The sum of the items. */
+/* Every call returned this code, and took little processor time while it slept: a millisecond at most on average, so sleepers don't wake
+ * each other in turn. The sum of the items. */
 static uint64_t joined(sleeper *sleepers, size_t count, int32_t code) {
-    uint64_t sum = 0;
+    uint64_t sum = 0, time = 0;
     for (size_t i = 0; i < count; i++) {
         CHECK(pthread_join(sleepers[i].thread, NULL) == 0);
         CHECK(sleepers[i].code == code && sleepers[i].time < 50000000);
         sum += sleepers[i].item.word[0];
+        time += sleepers[i].time;
     }
+    CHECK(time <= count * 1000000);
     return sum;
 }
 

@@ -4,11 +4,6 @@ use crate::blocks::{
     stays_legal, three_claim_one_place, three_claim_two_items, two_draw_in_a_row, two_get_in_a_row,
     two_look_for_items, two_look_for_room,
 };
-use crate::channels::{
-    channel_holds_what_fits, ends_its_calls_within_rounds, finds_no_item_only_at_the_end,
-    goes_on_at_its_next_step, is_not_refused_after_its_pass, is_served_within_rounds,
-    never_waits_but_asleep, never_waits_for_a_token, passes_are_paid_for, waits_with_few_tokens,
-};
 use crate::progress::{
     claims_within_three_steps, drawn_at_once, ends_at_its_seventh_step,
     ends_by_the_seats_of_its_cell, ends_within_its_rounds, keeps_its_turn, never_all_seats_wait,
@@ -48,18 +43,4 @@ fn rooms_of_any_bound() {
     holds_what_fits();
     same_marks_same_room();
     claims_within_three_steps();
-}
-
-#[test]
-fn channels_of_any_items() {
-    waits_with_few_tokens::<u64>();
-    channel_holds_what_fits::<u64>();
-    is_not_refused_after_its_pass::<u64>();
-    finds_no_item_only_at_the_end::<u64>();
-    goes_on_at_its_next_step::<u64>();
-    never_waits_but_asleep::<u64>();
-    ends_its_calls_within_rounds::<u64>();
-    is_served_within_rounds::<u64>();
-    passes_are_paid_for();
-    never_waits_for_a_token();
 }

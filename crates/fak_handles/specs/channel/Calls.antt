@@ -1,16 +1,17 @@
 -- Ends of channels: what is asked of the library, and what the exported functions return.
-use Rattle.std.specs.Prelude.{◌≡◌, ◌↔◌, ℕ, ℤ, pos, Bool, IsTrue, Option, Some, None, Result, Ok, Err, MatchOption, MatchResult}
+use Rattle.std.specs.Prelude.{◌≡◌, ◌↔◌, ◌+◌, ℕ, ℤ, pos, Bool, false, IsTrue, Option, Some, None, Result, Ok, Err, MatchOption, MatchResult}
 use Rattle.std.specs.Arc.{arc_value}
 use Rattle.fak_model.specs.declared.queue.Kind.TheVariants.{Close}
 use Rattle.fak_model.specs.Queue.{Has}
-use Rattle.fak_channel.specs.Channels.{IsLength, IsSpent, RefusesReceive, RefusesSend, RefusesTryReceive, RefusesTrySend}
-use Rattle.fak_channel.specs.ChannelSteps.{Sending, Receiving, Closing, Begins, BeginsAfterLook, GivesUp, IsAsleep, IsInCall, IsLeft, LooksOn, Runs, StandsAfter, Steps, call_state, rest_of}
+use Rattle.fak_queue.specs.Queues.{drawn_by}
+use Rattle.fak_channel.specs.Channels.{IsLength, OnlyLooks, RefusesReceive, RefusesSend}
+use Rattle.fak_channel.specs.ChannelSteps.{Sending, Receiving, Closing, BeginsAs, BeginsAfterLook, GivesUp, RefusesBeginTryReceive, RefusesBeginTrySend, Runs, StandsAfter, Steps}
+use Rattle.fak_channel.specs.Standings.{IsAsleep, IsBetweenCalls, IsInCall, call_state}
 use Rattle.fak_channel.specs.declared.fault.ChannelWorn.{ChannelWorn}
 use Rattle.fak_channel.specs.declared.fault.ReceiveFault.{ReceiveFault}
 use Rattle.fak_channel.specs.declared.fault.ReceiveFault.TheVariants as receiving
 use Rattle.fak_channel.specs.declared.fault.SendFault.{SendFault}
 use Rattle.fak_channel.specs.declared.fault.SendFault.TheVariants as sending
-use Rattle.fak_channel.specs.declared.standing.CallStanding.TheVariants.{Idle}
 use Rattle.fak_channel.specs.declared.standing.ChannelState.{ChannelState}
 use Rattle.fak_channel.specs.declared.standing.ChannelState.TheVariants as state
 use Rattle.fak_channel.specs.declared.standing.ChannelStep.{ChannelStep}
@@ -40,28 +41,28 @@ abbrev pub IsNotAsleep : ChannelDesk → ChannelDesk → Type 0
 IsNotAsleep d e = (IsAsleep d.seat → ⊥) × (e ≡ d)
 
 pub record AsksToSend (item : Item) (answer : Result (Unit {0}) (SendFault Item)) (d e : ChannelDesk) : Type 0 where
-  pub idle : d.seat.standing ≡ Idle
-  pub call : MatchResult answer (λ _. Begins (size_at d) (Sending item) d.seat e.seat)
-      (λ fault. RefusesSend (size_at d) item (rest_of d.seat) (rest_of e.seat) fault × (e.seat.standing ≡ Idle))
+  pub idle : IsBetweenCalls d.seat
+  pub call : MatchResult answer (λ _. BeginsAs (size_at d) false (Sending item) d.seat e.seat)
+      (λ fault. RefusesSend (size_at d) item d.seat e.seat fault × IsBetweenCalls e.seat)
 
 pub record AsksToTrySend (item : Item) (answer : Result (Unit {0}) (SendFault Item)) (d e : ChannelDesk) : Type 0 where
-  pub idle : d.seat.standing ≡ Idle
+  pub idle : IsBetweenCalls d.seat
   pub call : MatchResult answer (λ _. BeginsAfterLook (size_at d) (Sending item) d.seat e.seat)
-      (λ fault. RefusesTrySend (size_at d) item (rest_of d.seat) (rest_of e.seat) fault × (e.seat.standing ≡ Idle))
+      (λ fault. RefusesBeginTrySend (size_at d) item d.seat e.seat fault × IsBetweenCalls e.seat)
 
 pub record AsksToReceive (answer : Result (Unit {0}) ReceiveFault) (d e : ChannelDesk) : Type 0 where
-  pub idle : d.seat.standing ≡ Idle
-  pub call : MatchResult answer (λ _. Begins (size_at d) Receiving d.seat e.seat)
-      (λ fault. RefusesReceive (size_at d) (rest_of d.seat) (rest_of e.seat) fault × (e.seat.standing ≡ Idle))
+  pub idle : IsBetweenCalls d.seat
+  pub call : MatchResult answer (λ _. BeginsAs (size_at d) false Receiving d.seat e.seat)
+      (λ fault. RefusesReceive (size_at d) d.seat e.seat fault × IsBetweenCalls e.seat)
 
 pub record AsksToTryReceive (answer : Result (Unit {0}) ReceiveFault) (d e : ChannelDesk) : Type 0 where
-  pub idle : d.seat.standing ≡ Idle
+  pub idle : IsBetweenCalls d.seat
   pub call : MatchResult answer (λ _. BeginsAfterLook (size_at d) Receiving d.seat e.seat)
-      (λ fault. RefusesTryReceive (size_at d) (rest_of d.seat) (rest_of e.seat) fault × (e.seat.standing ≡ Idle))
+      (λ fault. RefusesBeginTryReceive (size_at d) d.seat e.seat fault × IsBetweenCalls e.seat)
 
 pub record AsksToClose (answer : Result (Unit {0}) ChannelWorn) (d e : ChannelDesk) : Type 0 where
-  pub idle : d.seat.standing ≡ Idle
-  pub call : MatchResult answer (λ _. Begins (size_at d) Closing d.seat e.seat) (λ _. IsSpent (rest_of d.seat) × (e.seat ≡ d.seat))
+  pub idle : IsBetweenCalls d.seat
+  pub call : MatchResult answer (λ _. BeginsAs (size_at d) false Closing d.seat e.seat) (λ _. ⊥)
 
 pub record AsksToStep (answer : ChannelStep Item) (d e : ChannelDesk) : Type 0 where
   pub in_call : IsInCall d.seat
@@ -71,7 +72,7 @@ pub record AsksToStep (answer : ChannelStep Item) (d e : ChannelDesk) : Type 0 w
 
 pub record AsksToGiveUp (answer : Option (Wish Item)) (d e : ChannelDesk) : Type 0 where
   pub asleep : IsAsleep d.seat
-  pub after : MatchOption answer (IsInCall e.seat) (λ _. e.seat.standing ≡ Idle)
+  pub after : MatchOption answer (IsInCall e.seat) (λ _. IsBetweenCalls e.seat)
   pub call : GivesUp (size_at d) d.seat e.seat answer
 
 -- ---- the results as codes: 11 wakes, 13 sleeps, 14 gave up
@@ -177,17 +178,17 @@ pub record GivesUpCall (code : ℤ) (item item' : Item) (d e : ChannelDesk) : Ty
 
 pub record CountsItems (code : ℤ) (items : ℕ) (d e : ChannelDesk) : Type 0 where
   pub code_is : code ≡ pos 0
-  pub looks : LooksOn (size_at d) d.seat e.seat
-  pub count : IsLength items (rest_of e.seat)
+  pub looks : OnlyLooks (size_at d) d.seat e.seat
+  pub count : IsLength items e.seat
 
 pub record TellsClosed (code : ℤ) (is_closed : Bool) (d e : ChannelDesk) : Type 0 where
   pub code_is : code ≡ pos 0
-  pub looks : LooksOn (size_at d) d.seat e.seat
-  pub closed : IsTrue is_closed ↔ Has Close e.seat.queue.seen
+  pub looks : OnlyLooks (size_at d) d.seat e.seat
+  pub closed : IsTrue is_closed ↔ Has Close e.seat.queue.seat.seen
 
 pub record LooksAtEnd (code : ℤ) (number state left : ℕ) (d e : ChannelDesk) : Type 0 where
   pub code_is : code ≡ pos 0
   pub same : e ≡ d
-  pub number_is : number ≡ d.seat.items.permit.name
-  pub state_is : state ≡ channel_state_code (call_state d.seat.standing)
-  pub left_is : IsLeft left d.seat
+  pub number_is : number ≡ d.seat.queue.seat.name
+  pub state_is : state ≡ channel_state_code (call_state d.seat.standing.next)
+  pub left_is : left + drawn_by d.seat.queue.seat ≡ d.seat.queue.seat.stint

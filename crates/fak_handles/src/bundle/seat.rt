@@ -7,7 +7,7 @@ ghost use Rattle.fak_queue.specs.declared.bundle.BundleState.TheVariants.{Idle, 
 ghost use Rattle.fak_handles.specs.bundle.Open.{open_in};
 
 use crate::desk::Desk;
-use crate::kind::Kind;
+use crate::seat_kind::SeatKind;
 use fak_queue::{Bundle, Queue};
 use std::alloc::Global;
 use std::collections::VecDeque;
@@ -59,7 +59,7 @@ impl BundleDesk {
     }
 }
 
-impl Kind for BundleDesk {
+impl SeatKind for BundleDesk {
     ghost use Rattle.std.specs.Prelude.{refl};
     ghost use Rattle.fak_handles.specs.Kinds.{bundle_in, with_bundle};
 

@@ -3,9 +3,8 @@
 ghost use Rattle.std.specs.Prelude.{◌≡◌, ◌↔◌, IsTrue, MatchOption};
 ghost use Rattle.fak_model.specs.declared.queue.Kind.TheVariants.{Close};
 ghost use Rattle.fak_model.specs.Queue.{Has};
-ghost use Rattle.fak_channel.specs.Channels.{IsLength};
-ghost use Rattle.fak_channel.specs.ChannelSteps.{LooksOn, rest_of};
-ghost use Rattle.fak_channel.specs.declared.standing.CallStanding.TheVariants.{Idle};
+ghost use Rattle.fak_channel.specs.Channels.{IsLength, OnlyLooks};
+ghost use Rattle.fak_channel.specs.Standings.{IsBetweenCalls};
 ghost use Rattle.fak_handles.specs.channel.Calls.{AsksToClose, AsksToGiveUp, AsksToReceive, AsksToSend, AsksToStep, AsksToTryReceive, AsksToTrySend, HasNoCall, HasOpenCall, IsNotAsleep, SameChannel, size_at};
 
 use crate::channel::seat::{ChannelDesk, Item};
@@ -92,8 +91,8 @@ impl ChannelDesk {
     /// `Channel::step_len`.
     pub fn len(&mut self) -> u64
         ensures same { SameChannel self.old self.new }
-        ensures looks { LooksOn (size_at self.old) self.old.seat self.new.seat }
-        ensures count { IsLength result (rest_of self.new.seat) }
+        ensures looks { OnlyLooks (size_at self.old) self.old.seat self.new.seat }
+        ensures count { IsLength result self.new.seat }
     {
         self.channel.step_len(&mut self.seat)
     }
@@ -101,14 +100,14 @@ impl ChannelDesk {
     /// `Channel::step_is_closed`.
     pub fn is_closed(&mut self) -> bool
         ensures same { SameChannel self.old self.new }
-        ensures looks { LooksOn (size_at self.old) self.old.seat self.new.seat }
-        ensures closed { IsTrue result ↔ Has Close self.new.seat.queue.seen }
+        ensures looks { OnlyLooks (size_at self.old) self.old.seat self.new.seat }
+        ensures closed { IsTrue result ↔ Has Close self.new.seat.queue.seat.seen }
     {
         self.channel.step_is_closed(&mut self.seat)
     }
 
     pub(crate) fn is_idle(&self) -> bool
-        ensures { IsTrue result ↔ (self.now.seat.standing ≡ Idle) }
+        ensures { IsTrue result ↔ IsBetweenCalls self.now.seat }
     {
         match self.seat.state() {
             ChannelState::Idle => true,

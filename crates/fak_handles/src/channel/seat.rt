@@ -2,11 +2,11 @@
 
 ghost use Rattle.std.specs.Prelude.{◌≡◌};
 ghost use Rattle.std.specs.Arc.{arc_value};
-ghost use Rattle.fak_channel.specs.ChannelSteps.{IsStepSeatOf};
+ghost use Rattle.fak_channel.specs.Standings.{IsStepSeatOf};
 ghost use Rattle.fak_channel.proofs.OneProof.{stands_prop};
 
 use crate::desk::Desk;
-use crate::kind::Kind;
+use crate::seat_kind::SeatKind;
 use fak_channel::{Channel, ChannelStepSeat};
 use std::alloc::Global;
 use std::sync::Arc;
@@ -47,7 +47,7 @@ impl ChannelDesk {
     }
 }
 
-impl Kind for ChannelDesk {
+impl SeatKind for ChannelDesk {
     ghost use Rattle.std.specs.Prelude.{refl};
     ghost use Rattle.fak_handles.specs.Kinds.{channel_in, with_channel};
 

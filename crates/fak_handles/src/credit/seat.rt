@@ -4,7 +4,7 @@ ghost use Rattle.std.specs.Prelude.{◌≡◌};
 ghost use Rattle.std.specs.Arc.{arc_value};
 
 use crate::desk::Desk;
-use crate::kind::Kind;
+use crate::seat_kind::SeatKind;
 use fak_count::{Credit, CreditSeat};
 use std::alloc::Global;
 use std::sync::Arc;
@@ -35,7 +35,7 @@ impl CreditDesk {
     }
 }
 
-impl Kind for CreditDesk {
+impl SeatKind for CreditDesk {
     ghost use Rattle.std.specs.Prelude.{refl};
     ghost use Rattle.fak_handles.specs.Kinds.{credit_in, with_credit};
 

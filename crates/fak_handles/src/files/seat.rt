@@ -4,7 +4,7 @@ ghost use Rattle.std.specs.Prelude.{◌≡◌};
 ghost use Rattle.std.specs.Arc.{arc_value};
 
 use crate::desk::Desk;
-use crate::kind::Kind;
+use crate::seat_kind::SeatKind;
 use fak_files::{FileSeat, FileTable};
 use std::alloc::Global;
 use std::sync::Arc;
@@ -39,7 +39,7 @@ impl FileDesk {
     }
 }
 
-impl Kind for FileDesk {
+impl SeatKind for FileDesk {
     ghost use Rattle.std.specs.Prelude.{refl};
     ghost use Rattle.fak_handles.specs.Kinds.{files_in, with_files};
 

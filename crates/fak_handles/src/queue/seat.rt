@@ -4,7 +4,7 @@ ghost use Rattle.std.specs.Prelude.{◌≡◌};
 ghost use Rattle.std.specs.Arc.{arc_value};
 
 use crate::desk::Desk;
-use crate::kind::Kind;
+use crate::seat_kind::SeatKind;
 use fak_queue::{Queue, Seat};
 use std::alloc::Global;
 use std::sync::Arc;
@@ -35,7 +35,7 @@ impl QueueDesk {
     }
 }
 
-impl Kind for QueueDesk {
+impl SeatKind for QueueDesk {
     ghost use Rattle.std.specs.Prelude.{refl};
     ghost use Rattle.fak_handles.specs.Kinds.{queue_in, with_queue};
 

@@ -6,7 +6,7 @@ ghost use Rattle.fak_model.specs.declared.queue.Kind.TheVariants.{BackIn};
 ghost use Rattle.fak_core.specs.declared.queue.phase.Phase.TheVariants.{BackUp, Idle};
 ghost use Rattle.fak_core.specs.QueueBlocks.{marks_back};
 ghost use Rattle.fak_queue.specs.Bundles.{ClaimsOn, RefusesOn};
-ghost use Rattle.fak_queue.specs.Bursts.{ClaimedBurst, Makes, RefusedBurst, RoomBurst, Says, claims_at, pair_up};
+ghost use Rattle.fak_queue.specs.Bursts.{ClaimedBurst, LeavesMarks, RefusedBurst, RoomBurst, Says, claims_at, pair_up};
 ghost use Rattle.fak_queue.specs.StepTokens.{StandsAt};
 ghost use Rattle.fak_queue.specs.BurstTokens.{IsClaimToken, TellsAll};
 
@@ -35,7 +35,7 @@ fn back_over<T>(
         claimants.now.items.now granted)) }
     ensures left { token.new.me.0.left ≡ token.old.me.0.left }
     ensures none { granted ≡ count → token.new.me ≡ token.old.me }
-    ensures makes { granted < count → Makes words.now.table_id.slots words.now.key.seats
+    ensures makes { granted < count → LeavesMarks words.now.table_id.slots words.now.key.seats
         (marks_back (λ x. BackIn) (drop granted (pair_up claimants.now.names.now claimants.now.items.now))) token.old.me token.new.me }
 {
     if granted < count {

@@ -6,7 +6,7 @@ ghost use Rattle.fak_model.specs.declared.queue.Kind.TheVariants.{BackOut};
 ghost use Rattle.fak_core.specs.declared.queue.phase.Phase.TheVariants.{BackLow, Idle};
 ghost use Rattle.fak_core.specs.QueueBlocks.{marks_back};
 ghost use Rattle.fak_queue.specs.Bundles.{ClaimsOutOn, RefusesOutOn};
-ghost use Rattle.fak_queue.specs.Bursts.{ClaimedOutBurst, Makes, RefusedOutBurst, Says, StockBurst, claims_out_at, pair_up, units};
+ghost use Rattle.fak_queue.specs.Bursts.{ClaimedOutBurst, LeavesMarks, RefusedOutBurst, Says, StockBurst, claims_out_at, pair_up, units};
 ghost use Rattle.fak_queue.specs.StepTokens.{StandsAt};
 ghost use Rattle.fak_queue.specs.BurstTokens.{IsClaimToken, TellsAll};
 
@@ -32,7 +32,7 @@ fn back_over_low<T>(
         granted)) }
     ensures left { token.new.me.0.left ≡ token.old.me.0.left }
     ensures none { granted ≡ count → token.new.me ≡ token.old.me }
-    ensures makes { granted < count → Makes words.now.table_id.slots words.now.key.seats
+    ensures makes { granted < count → LeavesMarks words.now.table_id.slots words.now.key.seats
         (marks_back (λ x. BackOut) (drop granted (pair_up names.now (units count)))) token.old.me
         token.new.me }
 {

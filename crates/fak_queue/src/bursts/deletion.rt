@@ -4,8 +4,8 @@ ghost use Rattle.std.specs.Prelude.{◌≡◌, ◌⊎◌, true, ◌≤◌, ◌++
 ghost use Rattle.fak_model.specs.Limits.{large_seats};
 ghost use Rattle.fak_core.specs.declared.queue.phase.Phase.TheVariants.{BackLow, EndDelete, Idle, LoadItem, SubLow, TicketOut, TurnOut};
 ghost use Rattle.fak_core.specs.QueueBlocks.{AreApart, Posts, all_at, names_of};
-ghost use Rattle.fak_queue.specs.declared.standing.Standing.TheVariants.{Each};
-ghost use Rattle.fak_queue.specs.Bursts.{AllIn, AreIdle, BackLowBurst, DrewOutBurst, EndedOutBurst};
+ghost use Rattle.fak_queue.specs.declared.phases.Phases.TheVariants.{Each};
+ghost use Rattle.fak_queue.specs.Bursts.{AllIn, PostsAreIdle, BackLowBurst, DrewOutBurst, EndedOutBurst};
 ghost use Rattle.fak_queue.specs.Bursts.{FreesBurst, Says, SaysAfter, SubbedBurst, TestedLowBurst, TurnsOutBurst};
 ghost use Rattle.fak_queue.specs.Shown.{IsPost};
 ghost use Rattle.fak_model.specs.Seats.{In};
@@ -15,16 +15,16 @@ ghost use Rattle.fak_queue.specs.StepTokens.{StandsAt};
 ghost use Rattle.fak_queue.specs.BurstTokens.{IsBundleToken, IsBurstToken, IsNameAt, TellsAll};
 
 use crate::bursts::plays::{
-    BackLowBurstPlay, DrawOutBurstPlay, EndOutBurstPlay, Ends, FreeBurstPlay, OneName,
-    SubBurstPlay, Takers, TestLowBurstPlay, TurnOutBurstPlay,
+    BackLowBurstPlay, BurstOfDeletions, DrawOutBurstPlay, EndOutBurstPlay, EndsOfBurst,
+    FreeBurstPlay, OneName, SubBurstPlay, TestLowBurstPlay, TurnOutBurstPlay,
 };
-use crate::place::Place;
 use crate::steps::{QueueToken, QueueWords};
+use crate::ticket_cell::TicketCell;
 use crate::words::{DRAWS_OUT, LOWER, TURNS, UPPER};
 
 /// Tests the lower count for the burst's names, and returns its word. It comes first, so that a burst that finds no item
 /// changes no count. Only the proof uses the names and the number of those that take part.
-pub(crate) fn test_low_burst<T, J: Takers<T>>(
+pub(crate) fn test_low_burst<T, J: BurstOfDeletions<T>>(
     words: &QueueWords<T>,
     token: &mut QueueToken<T>,
     _names: &[u64],
@@ -32,7 +32,7 @@ pub(crate) fn test_low_burst<T, J: Takers<T>>(
 ) -> u64
     requires token { IsBurstToken words.now.table_id words.now.key J.seats J.items J.others (StandsAt Idle) token.old }
     requires all { AllIn token.old.me.0.names (names_of J.items ++ names_of J.others) }
-    requires idle { AreIdle J.others }
+    requires idle { PostsAreIdle J.others }
     ensures { TellsAll token.old token.new (λ after. TestedLowBurst words.now.table_id.slots J.seats J.items J.others
         token.old.me result after) }
 {
@@ -41,7 +41,7 @@ pub(crate) fn test_low_burst<T, J: Takers<T>>(
 
 /// Subtracts the number of the burst's names from the lower count, and returns what it was before. It follows a
 /// `test_low_burst` that found an item; what it returns decides how many names are granted.
-pub(crate) fn sub_burst<T, J: Takers<T>>(
+pub(crate) fn sub_burst<T, J: BurstOfDeletions<T>>(
     words: &QueueWords<T>,
     token: &mut QueueToken<T>,
     count: u64,
@@ -59,7 +59,7 @@ pub(crate) fn sub_burst<T, J: Takers<T>>(
 
 /// Gives back what was subtracted for these names. It follows a `sub_burst` that left no items for them; until then others
 /// may be refused.
-pub(crate) fn back_low_burst<T, J: Takers<T>>(
+pub(crate) fn back_low_burst<T, J: BurstOfDeletions<T>>(
     words: &QueueWords<T>,
     token: &mut QueueToken<T>,
     count: u64,
@@ -78,7 +78,7 @@ pub(crate) fn back_low_burst<T, J: Takers<T>>(
 
 /// Draws a deletion's ticket for each of the burst's names, and returns the first. It follows `sub_burst`, and draws only
 /// for the names that this granted: one step, so that the burst's tickets follow one another.
-pub(crate) fn draw_out_burst<T, J: Takers<T>>(
+pub(crate) fn draw_out_burst<T, J: BurstOfDeletions<T>>(
     words: &QueueWords<T>,
     token: &mut QueueToken<T>,
     count: u64,
@@ -100,7 +100,7 @@ pub(crate) fn draw_out_burst<T, J: Takers<T>>(
 pub(crate) fn turn_out_burst<T, J: OneName>(
     words: &QueueWords<T>,
     token: &mut QueueToken<T>,
-    place: Place,
+    place: TicketCell,
     _name: u64,
 ) -> u64
     requires { IsNameAt words.now.table_id words.now.key J.seats place J.name (λ me. (all : Posts T)
@@ -116,7 +116,7 @@ pub(crate) fn turn_out_burst<T, J: OneName>(
 pub(crate) fn free_burst<T, J: OneName>(
     words: &QueueWords<T>,
     token: &mut QueueToken<T>,
-    place: Place,
+    place: TicketCell,
     _name: u64,
 )
     requires token { IsNameAt words.now.table_id words.now.key J.seats place J.name (λ me. (all : Posts T)
@@ -130,7 +130,7 @@ pub(crate) fn free_burst<T, J: OneName>(
 
 /// Subtracts the number of these names from the upper count, which ends their deletions. It follows `free_burst` for each
 /// of them, since insertions may claim all their cells from here on.
-pub(crate) fn end_out_burst<T, J: Ends>(
+pub(crate) fn end_out_burst<T, J: EndsOfBurst>(
     words: &QueueWords<T>,
     token: &mut QueueToken<T>,
     names: &[u64],

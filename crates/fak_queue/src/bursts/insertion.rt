@@ -4,9 +4,9 @@ ghost use Rattle.std.specs.Prelude.{◌≡◌, ◌⊎◌, true, ◌≤◌, ◌++
 ghost use Rattle.fak_model.specs.Limits.{large_seats};
 ghost use Rattle.fak_core.specs.declared.queue.phase.Phase.TheVariants.{AddUp, BackUp, EndInsert, Idle, StoreItem, TicketIn, TurnIn};
 ghost use Rattle.fak_core.specs.QueueBlocks.{AreApart, Posts, all_at, names_of};
-ghost use Rattle.fak_queue.specs.declared.standing.Standing.TheVariants.{Each};
-ghost use Rattle.fak_queue.specs.Bursts.{AddedBurst, AllIn, AreIdle, BackBurst, DrewBurst, EndedBurst};
-ghost use Rattle.fak_queue.specs.Bursts.{FillsBurst, Says, SaysAfter, TestedBurst, TurnsBurst};
+ghost use Rattle.fak_queue.specs.declared.phases.Phases.TheVariants.{Each};
+ghost use Rattle.fak_queue.specs.Bursts.{AddedBurst, AllIn, PostsAreIdle, BackBurst, DrewBurst, EndedBurst};
+ghost use Rattle.fak_queue.specs.Bursts.{FillsCellInBurst, Says, SaysAfter, TestedBurst, TurnsBurst};
 ghost use Rattle.fak_queue.specs.Shown.{IsPost};
 ghost use Rattle.fak_model.specs.Seats.{In};
 ghost use Rattle.fak_core.specs.declared.queue.phase.Phase.{Phase};
@@ -16,16 +16,16 @@ ghost use Rattle.fak_queue.specs.BurstTokens.{IsBundleToken, IsBurstToken, IsNam
 
 use crate::bursts::first_items::FirstItems;
 use crate::bursts::plays::{
-    AddBurstPlay, BackBurstPlay, Burst, DrawBurstPlay, EndBurstPlay, Ends, FillBurstPlay, OneName,
-    TestBurstPlay, TurnBurstPlay,
+    AddBurstPlay, BackBurstPlay, BurstOfInsertions, DrawBurstPlay, EndBurstPlay, EndsOfBurst,
+    FillBurstPlay, OneName, TestBurstPlay, TurnBurstPlay,
 };
-use crate::place::Place;
 use crate::steps::{QueueToken, QueueWords};
+use crate::ticket_cell::TicketCell;
 use crate::words::{DRAWS_IN, LOWER, TURNS, UPPER};
 
 /// Tests the upper count for the burst's names, and returns its word. It comes first, so that a burst that finds no room
 /// changes no count.
-pub(crate) fn test_burst<T, J: Burst<T>>(
+pub(crate) fn test_burst<T, J: BurstOfInsertions<T>>(
     words: &QueueWords<T>,
     token: &mut QueueToken<T>,
     _names: &[u64],
@@ -33,7 +33,7 @@ pub(crate) fn test_burst<T, J: Burst<T>>(
 ) -> u64
     requires token { IsBurstToken words.now.table_id words.now.key J.seats J.items J.others (StandsAt Idle) token.old }
     requires all { AllIn token.old.me.0.names (names_of J.items ++ names_of J.others) }
-    requires idle { AreIdle J.others }
+    requires idle { PostsAreIdle J.others }
     ensures { TellsAll token.old token.new (λ after. TestedBurst words.now.table_id.slots J.seats J.items J.others
         token.old.me result after) }
 {
@@ -42,7 +42,7 @@ pub(crate) fn test_burst<T, J: Burst<T>>(
 
 /// Adds the number of the burst's names to the upper count, and returns what it was before. It follows a `test_burst` that
 /// found room; what it returns decides how many names are granted.
-pub(crate) fn add_burst<T, J: Burst<T>>(
+pub(crate) fn add_burst<T, J: BurstOfInsertions<T>>(
     words: &QueueWords<T>,
     token: &mut QueueToken<T>,
     count: u64,
@@ -60,7 +60,7 @@ pub(crate) fn add_burst<T, J: Burst<T>>(
 
 /// Takes back what was added for these names. It follows an `add_burst` that left no room for them; until then others may
 /// be refused.
-pub(crate) fn back_burst<T, J: Burst<T>>(
+pub(crate) fn back_burst<T, J: BurstOfInsertions<T>>(
     words: &QueueWords<T>,
     token: &mut QueueToken<T>,
     count: u64,
@@ -79,7 +79,7 @@ pub(crate) fn back_burst<T, J: Burst<T>>(
 
 /// Draws a ticket for each of the burst's names, and returns the first. It follows `add_burst`, and draws only for the
 /// names that this granted: one step, so that the burst's tickets follow one another.
-pub(crate) fn draw_burst<T, J: Burst<T>>(
+pub(crate) fn draw_burst<T, J: BurstOfInsertions<T>>(
     words: &QueueWords<T>,
     token: &mut QueueToken<T>,
     count: u64,
@@ -101,7 +101,7 @@ pub(crate) fn draw_burst<T, J: Burst<T>>(
 pub(crate) fn turn_burst<T, J: OneName>(
     words: &QueueWords<T>,
     token: &mut QueueToken<T>,
-    place: Place,
+    place: TicketCell,
     _name: u64,
 ) -> u64
     requires { IsNameAt words.now.table_id words.now.key J.seats place J.name (λ me. (all : Posts T)
@@ -117,13 +117,13 @@ pub(crate) fn turn_burst<T, J: OneName>(
 pub(crate) fn fill_burst<T, J: OneName>(
     words: &QueueWords<T>,
     token: &mut QueueToken<T>,
-    place: Place,
+    place: TicketCell,
     _name: u64,
 )
     requires { IsNameAt words.now.table_id words.now.key J.seats place J.name (λ me. (all : Posts T)
         × (me.0.phase ≡ Some (Each all)) × ((x : T) × IsPost J.name (StoreItem place.ticket x) all
         × ((others : List (ℕ × Option T)) × (me.1 ≡ (place.cell, Some x) ∷ others)))) token.old }
-    ensures { TellsAll token.old token.new (λ after. FillsBurst words.now.table_id.slots J.seats J.name token.old.me
+    ensures { TellsAll token.old token.new (λ after. FillsCellInBurst words.now.table_id.slots J.seats J.name token.old.me
         after) }
 {
     words.store::<FillBurstPlay<J>>(token, place.cell + TURNS, 2 * place.round + 1);
@@ -131,7 +131,7 @@ pub(crate) fn fill_burst<T, J: OneName>(
 
 /// Adds the number of these names to the lower count, which ends their insertions. It follows `fill_burst` for each of
 /// them, since deletions may claim all their items from here on.
-pub(crate) fn end_burst<T, J: Ends>(
+pub(crate) fn end_burst<T, J: EndsOfBurst>(
     words: &QueueWords<T>,
     token: &mut QueueToken<T>,
     names: &[u64],

@@ -1,21 +1,21 @@
 //! What each atomic step of a burst shows to the bundle. Only the proofs use these types.
 
 ghost use Rattle.std.specs.Prelude.{ℕ, Bool, false, List, []};
-ghost use Rattle.fak_queue.specs.declared.standing.Standing.TheVariants.{Each};
+ghost use Rattle.fak_queue.specs.declared.phases.Phases.TheVariants.{Each};
 ghost use Rattle.fak_queue.specs.Bursts.{AddedBurst, BackBurst, BackLowBurst, DrewBurst, DrewOutBurst, EndedBurst};
-ghost use Rattle.fak_queue.specs.Bursts.{EndedOutBurst, FillsBurst, FreesBurst, SubbedBurst, TestedBurst};
+ghost use Rattle.fak_queue.specs.Bursts.{EndedOutBurst, FillsCellInBurst, FreesBurst, SubbedBurst, TestedBurst};
 ghost use Rattle.fak_queue.specs.Bursts.{TestedLowBurst, TurnsBurst, TurnsOutBurst};
 
-use crate::standing::Standing;
+use crate::phases::Phases;
 use atomic_table::Play;
 use fak_model::{Mark, View};
 use std::marker::{Brand, PhantomData};
 
 /// The burst that a step belongs to: the number of seats, the names that step, each with its item, and the posts of the
 /// others.
-pub trait Burst<T> {
+pub trait BurstOfInsertions<T> {
     ghost use Rattle.fak_core.specs.QueueBlocks.{Posts};
-    ghost use Rattle.fak_queue.specs.declared.standing.Standing.{Standing};
+    ghost use Rattle.fak_queue.specs.declared.phases.Phases.{Phases};
 
     ghost seats: { ℕ };
 
@@ -24,11 +24,11 @@ pub trait Burst<T> {
     ghost others: { Posts T };
 
     // What its view states then, since some steps leave a choice.
-    ghost then: { Standing T };
+    ghost then: { Phases T };
 }
 
 /// The names that end their insertions or deletions, each with its ticket, and whether all names are at rest then.
-pub trait Ends {
+pub trait EndsOfBurst {
     ghost seats: { ℕ };
 
     ghost items: { List (ℕ × ℕ) };
@@ -43,10 +43,10 @@ pub trait OneName {
     ghost name: { ℕ };
 }
 
-/// The burst of deletions that a step belongs to: as `Burst`.
-pub trait Takers<T> {
+/// The burst of deletions that a step belongs to: as `BurstOfInsertions`.
+pub trait BurstOfDeletions<T> {
     ghost use Rattle.fak_core.specs.QueueBlocks.{Posts};
-    ghost use Rattle.fak_queue.specs.declared.standing.Standing.{Standing};
+    ghost use Rattle.fak_queue.specs.declared.phases.Phases.{Phases};
 
     ghost seats: { ℕ };
 
@@ -54,10 +54,10 @@ pub trait Takers<T> {
 
     ghost others: { Posts T };
 
-    ghost then: { Standing T };
+    ghost then: { Phases T };
 }
 
-impl<T> Burst<T> for Brand {
+impl<T> BurstOfInsertions<T> for Brand {
     ghost seats = { 0 };
 
     ghost items = { [] };
@@ -67,7 +67,7 @@ impl<T> Burst<T> for Brand {
     ghost then = { Each [] };
 }
 
-impl Ends for Brand {
+impl EndsOfBurst for Brand {
     ghost seats = { 0 };
 
     ghost items = { [] };
@@ -81,7 +81,7 @@ impl OneName for Brand {
     ghost name = { 0 };
 }
 
-impl<T> Takers<T> for Brand {
+impl<T> BurstOfDeletions<T> for Brand {
     ghost seats = { 0 };
 
     ghost items = { [] };
@@ -96,7 +96,7 @@ pub struct TestBurstPlay<J> {
     call: PhantomData<J>,
 }
 
-impl<T, J: Burst<T>> Play<Option<T>, View<Mark<T>, Standing<T>>> for TestBurstPlay<J> {
+impl<T, J: BurstOfInsertions<T>> Play<Option<T>, View<Mark<T>, Phases<T>>> for TestBurstPlay<J> {
     ghost then = { λ s m found after. TestedBurst s.slots J.seats J.items J.others m found after };
 }
 
@@ -105,7 +105,7 @@ pub struct AddBurstPlay<J> {
     call: PhantomData<J>,
 }
 
-impl<T, J: Burst<T>> Play<Option<T>, View<Mark<T>, Standing<T>>> for AddBurstPlay<J> {
+impl<T, J: BurstOfInsertions<T>> Play<Option<T>, View<Mark<T>, Phases<T>>> for AddBurstPlay<J> {
     ghost then = { λ s m found after. AddedBurst s.slots J.seats J.items J.others m found after };
 }
 
@@ -114,7 +114,7 @@ pub struct BackBurstPlay<J> {
     call: PhantomData<J>,
 }
 
-impl<T, J: Burst<T>> Play<Option<T>, View<Mark<T>, Standing<T>>> for BackBurstPlay<J> {
+impl<T, J: BurstOfInsertions<T>> Play<Option<T>, View<Mark<T>, Phases<T>>> for BackBurstPlay<J> {
     ghost then = { λ s m _ after. BackBurst s.slots J.seats J.items J.others J.then m after };
 }
 
@@ -123,7 +123,7 @@ pub struct DrawBurstPlay<J> {
     call: PhantomData<J>,
 }
 
-impl<T, J: Burst<T>> Play<Option<T>, View<Mark<T>, Standing<T>>> for DrawBurstPlay<J> {
+impl<T, J: BurstOfInsertions<T>> Play<Option<T>, View<Mark<T>, Phases<T>>> for DrawBurstPlay<J> {
     ghost then = { λ s m found after. DrewBurst s.slots J.seats J.items J.others m found after };
 }
 
@@ -132,7 +132,7 @@ pub struct TurnBurstPlay<J> {
     call: PhantomData<J>,
 }
 
-impl<T, J: OneName> Play<Option<T>, View<Mark<T>, Standing<T>>> for TurnBurstPlay<J> {
+impl<T, J: OneName> Play<Option<T>, View<Mark<T>, Phases<T>>> for TurnBurstPlay<J> {
     ghost then = { λ s m found after. TurnsBurst s.slots J.seats J.name m found after };
 }
 
@@ -141,8 +141,8 @@ pub struct FillBurstPlay<J> {
     call: PhantomData<J>,
 }
 
-impl<T, J: OneName> Play<Option<T>, View<Mark<T>, Standing<T>>> for FillBurstPlay<J> {
-    ghost then = { λ s m _ after. FillsBurst s.slots J.seats J.name m after };
+impl<T, J: OneName> Play<Option<T>, View<Mark<T>, Phases<T>>> for FillBurstPlay<J> {
+    ghost then = { λ s m _ after. FillsCellInBurst s.slots J.seats J.name m after };
 }
 
 /// The end of several insertions at once.
@@ -150,7 +150,7 @@ pub struct EndBurstPlay<J> {
     call: PhantomData<J>,
 }
 
-impl<T, J: Ends> Play<Option<T>, View<Mark<T>, Standing<T>>> for EndBurstPlay<J> {
+impl<T, J: EndsOfBurst> Play<Option<T>, View<Mark<T>, Phases<T>>> for EndBurstPlay<J> {
     ghost then = { λ s m _ after. EndedBurst s.slots J.seats J.items J.rests m after };
 }
 
@@ -159,7 +159,7 @@ pub struct TestLowBurstPlay<J> {
     call: PhantomData<J>,
 }
 
-impl<T, J: Takers<T>> Play<Option<T>, View<Mark<T>, Standing<T>>> for TestLowBurstPlay<J> {
+impl<T, J: BurstOfDeletions<T>> Play<Option<T>, View<Mark<T>, Phases<T>>> for TestLowBurstPlay<J> {
     ghost then = { λ s m found after. TestedLowBurst s.slots J.seats J.items J.others m found after };
 }
 
@@ -168,7 +168,7 @@ pub struct SubBurstPlay<J> {
     call: PhantomData<J>,
 }
 
-impl<T, J: Takers<T>> Play<Option<T>, View<Mark<T>, Standing<T>>> for SubBurstPlay<J> {
+impl<T, J: BurstOfDeletions<T>> Play<Option<T>, View<Mark<T>, Phases<T>>> for SubBurstPlay<J> {
     ghost then = { λ s m found after. SubbedBurst s.slots J.seats J.items J.others m found after };
 }
 
@@ -177,7 +177,7 @@ pub struct BackLowBurstPlay<J> {
     call: PhantomData<J>,
 }
 
-impl<T, J: Takers<T>> Play<Option<T>, View<Mark<T>, Standing<T>>> for BackLowBurstPlay<J> {
+impl<T, J: BurstOfDeletions<T>> Play<Option<T>, View<Mark<T>, Phases<T>>> for BackLowBurstPlay<J> {
     ghost then = { λ s m _ after. BackLowBurst s.slots J.seats J.items J.others J.then m after };
 }
 
@@ -186,7 +186,7 @@ pub struct DrawOutBurstPlay<J> {
     call: PhantomData<J>,
 }
 
-impl<T, J: Takers<T>> Play<Option<T>, View<Mark<T>, Standing<T>>> for DrawOutBurstPlay<J> {
+impl<T, J: BurstOfDeletions<T>> Play<Option<T>, View<Mark<T>, Phases<T>>> for DrawOutBurstPlay<J> {
     ghost then = { λ s m found after. DrewOutBurst s.slots J.seats J.items J.others m found after };
 }
 
@@ -195,7 +195,7 @@ pub struct TurnOutBurstPlay<J> {
     call: PhantomData<J>,
 }
 
-impl<T, J: OneName> Play<Option<T>, View<Mark<T>, Standing<T>>> for TurnOutBurstPlay<J> {
+impl<T, J: OneName> Play<Option<T>, View<Mark<T>, Phases<T>>> for TurnOutBurstPlay<J> {
     ghost then = { λ s m found after. TurnsOutBurst s.slots J.seats J.name m found after };
 }
 
@@ -204,7 +204,7 @@ pub struct FreeBurstPlay<J> {
     call: PhantomData<J>,
 }
 
-impl<T, J: OneName> Play<Option<T>, View<Mark<T>, Standing<T>>> for FreeBurstPlay<J> {
+impl<T, J: OneName> Play<Option<T>, View<Mark<T>, Phases<T>>> for FreeBurstPlay<J> {
     ghost then = { λ s m _ after. FreesBurst s.slots J.seats J.name m after };
 }
 
@@ -213,6 +213,6 @@ pub struct EndOutBurstPlay<J> {
     call: PhantomData<J>,
 }
 
-impl<T, J: Ends> Play<Option<T>, View<Mark<T>, Standing<T>>> for EndOutBurstPlay<J> {
+impl<T, J: EndsOfBurst> Play<Option<T>, View<Mark<T>, Phases<T>>> for EndOutBurstPlay<J> {
     ghost then = { λ s m _ after. EndedOutBurst s.slots J.seats J.items J.rests m after };
 }

@@ -7,15 +7,15 @@ ghost use Rattle.fak_queue.specs.BurstTokens.{IsNameAt, TellsAll};
 
 use crate::bursts::deletion::{free_burst, turn_out_burst};
 use crate::bursts::insertion::{fill_burst, turn_burst};
-use crate::place::Place;
 use crate::steps::{QueueToken, QueueWords};
+use crate::ticket_cell::TicketCell;
 use std::marker::Brand;
 
 /// Whether it is the ticket's turn to fill its cell. Then the name has the cell's slot.
 pub(crate) fn has_room<T>(
     words: &QueueWords<T>,
     token: &mut QueueToken<T>,
-    place: Place,
+    place: TicketCell,
     name: u64,
 ) -> bool
     requires { IsNameAt words.now.table_id words.now.key words.now.key.seats place name (λ me. (x : T)
@@ -30,7 +30,7 @@ pub(crate) fn has_room<T>(
 pub(crate) fn fill<T>(
     words: &QueueWords<T>,
     token: &mut QueueToken<T>,
-    place: Place,
+    place: TicketCell,
     name: u64,
     item: T,
 )
@@ -51,7 +51,7 @@ pub(crate) fn fill<T>(
 pub(crate) fn has_item<T>(
     words: &QueueWords<T>,
     token: &mut QueueToken<T>,
-    place: Place,
+    place: TicketCell,
     name: u64,
 ) -> bool
     requires { IsNameAt words.now.table_id words.now.key words.now.key.seats place name (λ me. SaysOf me.0 name
@@ -66,7 +66,7 @@ pub(crate) fn has_item<T>(
 pub(crate) fn take<T>(
     words: &QueueWords<T>,
     token: &mut QueueToken<T>,
-    place: Place,
+    place: TicketCell,
     name: u64,
 ) -> T
     requires token { IsNameAt words.now.table_id words.now.key words.now.key.seats place name (λ me. SaysOf me.0 name

@@ -5,7 +5,7 @@ ghost use Rattle.fak_queue.specs.BitSteps.{ChecksDrained, Cleared, GaveUp, Looke
 ghost use Rattle.fak_queue.specs.Sleepers.{has_bit};
 ghost use Rattle.fak_queue.specs.Steps.{Named};
 
-use crate::standing::Standing;
+use crate::phases::Phases;
 use atomic_table::Play;
 use fak_model::{Mark, View};
 use std::marker::{Brand, PhantomData};
@@ -36,7 +36,7 @@ pub struct SetBitPlay<J> {
     call: PhantomData<J>,
 }
 
-impl<T, J: OfBits> Play<Option<T>, View<Mark<T>, Standing<T>>> for SetBitPlay<J> {
+impl<T, J: OfBits> Play<Option<T>, View<Mark<T>, Phases<T>>> for SetBitPlay<J> {
     ghost then = { λ s m _ after. Named m (λ n. SetBit s.slots J.seats n J.role m after) };
 }
 
@@ -45,7 +45,7 @@ pub struct SeeBitPlay<J> {
     call: PhantomData<J>,
 }
 
-impl<T, J: OfBits> Play<Option<T>, View<Mark<T>, Standing<T>>> for SeeBitPlay<J> {
+impl<T, J: OfBits> Play<Option<T>, View<Mark<T>, Phases<T>>> for SeeBitPlay<J> {
     ghost then = { λ s m found after. Named m (λ n. SawBit s.slots J.seats n J.role (has_bit found (n % 64)) m after) };
 }
 
@@ -54,7 +54,7 @@ pub struct TakeBackPlay<J> {
     call: PhantomData<J>,
 }
 
-impl<T, J: OfBits> Play<Option<T>, View<Mark<T>, Standing<T>>> for TakeBackPlay<J> {
+impl<T, J: OfBits> Play<Option<T>, View<Mark<T>, Phases<T>>> for TakeBackPlay<J> {
     ghost then = { λ s m found after. Named m (λ n. TookBack s.slots J.seats n J.role (has_bit found (n % 64)) m
         after) };
 }
@@ -64,7 +64,7 @@ pub struct GiveUpPlay<J> {
     call: PhantomData<J>,
 }
 
-impl<T, J: OfBits> Play<Option<T>, View<Mark<T>, Standing<T>>> for GiveUpPlay<J> {
+impl<T, J: OfBits> Play<Option<T>, View<Mark<T>, Phases<T>>> for GiveUpPlay<J> {
     ghost then = { λ s m _ after. Named m (λ n. GaveUp s.slots J.seats n J.role m after) };
 }
 
@@ -73,7 +73,7 @@ pub struct LookPlay<J> {
     call: PhantomData<J>,
 }
 
-impl<T, J: OfBits> Play<Option<T>, View<Mark<T>, Standing<T>>> for LookPlay<J> {
+impl<T, J: OfBits> Play<Option<T>, View<Mark<T>, Phases<T>>> for LookPlay<J> {
     ghost then = { λ s m found after. Named m (λ n. Looked s.slots J.seats n J.role J.number found m after) };
 }
 
@@ -82,7 +82,7 @@ pub struct ClearPlay<J> {
     call: PhantomData<J>,
 }
 
-impl<T, J: OfBits> Play<Option<T>, View<Mark<T>, Standing<T>>> for ClearPlay<J> {
+impl<T, J: OfBits> Play<Option<T>, View<Mark<T>, Phases<T>>> for ClearPlay<J> {
     ghost then = { λ s m found after. Named m (λ n. Cleared s.slots J.seats n J.role J.number
         (has_bit found (J.number % 64)) m after) };
 }
@@ -92,7 +92,7 @@ pub struct TestRoomAgainPlay<J> {
     call: PhantomData<J>,
 }
 
-impl<T, J: OfBits> Play<Option<T>, View<Mark<T>, Standing<T>>> for TestRoomAgainPlay<J> {
+impl<T, J: OfBits> Play<Option<T>, View<Mark<T>, Phases<T>>> for TestRoomAgainPlay<J> {
     ghost then = { λ s m found after. Named m (λ n. TestsRoomAgain s.slots J.seats n m found after) };
 }
 
@@ -101,7 +101,7 @@ pub struct TestItemAgainPlay<J> {
     call: PhantomData<J>,
 }
 
-impl<T, J: OfBits> Play<Option<T>, View<Mark<T>, Standing<T>>> for TestItemAgainPlay<J> {
+impl<T, J: OfBits> Play<Option<T>, View<Mark<T>, Phases<T>>> for TestItemAgainPlay<J> {
     ghost then = { λ s m found after. Named m (λ n. TestsItemAgain s.slots J.seats n m found after) };
 }
 
@@ -110,7 +110,7 @@ pub struct TestDrainedAgainPlay<J> {
     call: PhantomData<J>,
 }
 
-impl<T, J: OfBits> Play<Option<T>, View<Mark<T>, Standing<T>>> for TestDrainedAgainPlay<J> {
+impl<T, J: OfBits> Play<Option<T>, View<Mark<T>, Phases<T>>> for TestDrainedAgainPlay<J> {
     ghost then = { λ s m found after. Named m (λ n. TestsDrainedAgain s.slots J.seats n m found after) };
 }
 
@@ -119,6 +119,6 @@ pub struct CheckDrainedPlay<J> {
     call: PhantomData<J>,
 }
 
-impl<T, J: OfBits> Play<Option<T>, View<Mark<T>, Standing<T>>> for CheckDrainedPlay<J> {
+impl<T, J: OfBits> Play<Option<T>, View<Mark<T>, Phases<T>>> for CheckDrainedPlay<J> {
     ghost then = { λ s m found after. Named m (λ n. ChecksDrained s.slots J.seats n m found after) };
 }

@@ -2,7 +2,7 @@
 
 ghost use Rattle.std.specs.Prelude.{◌≡◌, Some};
 ghost use Rattle.fak_core.specs.declared.queue.phase.Phase.{Phase};
-ghost use Rattle.fak_queue.specs.declared.standing.Standing.TheVariants.{Alike};
+ghost use Rattle.fak_queue.specs.declared.phases.Phases.TheVariants.{Alike};
 ghost use Rattle.fak_queue.specs.Steps.{ObservedLow, ObservedUp};
 ghost use Rattle.fak_queue.specs.StepTokens.{IsTokenOf, StandsAt};
 ghost use Rattle.fak_queue.specs.BurstTokens.{TellsAll};

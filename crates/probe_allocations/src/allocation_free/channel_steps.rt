@@ -1,7 +1,7 @@
 //! Calls of a channel's ends by steps.
 
-ghost use Rattle.fak_channel.specs.Channels.{IsSeatOf};
-ghost use Rattle.fak_channel.specs.ChannelSteps.{IsStepSeatOf};
+ghost use Rattle.fak_channel.specs.Standings.{IsSeatOf};
+ghost use Rattle.fak_channel.specs.Standings.{IsStepSeatOf};
 ghost use Rattle.fak_channel.proofs.OneProof.{stands_prop};
 
 use super::sentinels::{begin, end};
@@ -107,7 +107,7 @@ impl<'c> Stepper<'c> {
 
 /// A receive that sleeps and gives up, and then a send and a receive that look first.
 fn give_up_and_try(receiver: &mut Stepper<'_>, sender: &mut Stepper<'_>) -> bool {
-    sender.looks() == (0, false, 99)
+    sender.looks() == (0, false, 100)
         && receiver.tries_to_receive() == Some(Err(ReceiveFault::Empty))
         && receiver.receives()
         && receiver.steps() == Some(ChannelStep::Sleeps)

@@ -23,8 +23,8 @@ loop-name-init g c =
 pub split_seat-requires : goal.split_seat-requires
 split_seat-requires g c = (c.loop-name.invariant.table, omega (arith, c.queue.invariant.words), splits (queue_object c.queue.inside.table.shared.key.size c.queue.inside.table.shared.key.seats) _ _)
 
-pub invariant_of-seat : goal.invariant_of-seat
-invariant_of-seat g c =
+pub invariant_of-parts : goal.invariant_of-parts
+invariant_of-parts g c =
     let object = ap (λ (b : BundleInfo _). b.object) c.bundle.view_is ∙ (c.requires.object ∙ sym (ap (λ (q : QueueInfo). q.object) c.queue.view_is)) in
     let stays = c.split_seat.ensures.3 ∙ (c.loop-name.invariant.table ∙ sym (ap (λ (o : ObjectId). o.table) object)) in
     dealt_keeps (deals_first c.bundle.invariant c.bundle.view_is c.rest.ensures.told) c.loop-name.invariant.dealt c.in-Some.ensures.steps.0 c.loop-name.invariant.others c.split_seat.ensures.2 c.split_seat.ensures.4 stays

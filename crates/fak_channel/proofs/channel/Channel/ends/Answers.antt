@@ -2,7 +2,7 @@ use Rattle.std.proofs.Common.{◌≡◌, ◌++◌, [], ◌∷◌, map, ap, sym, 
 use Rattle.std.specs.List.{All}
 use Rattle.std.proofs.lemmas.List.{map-append}
 use Rattle.std.proofs.lemmas.List.Elements.{All-nil, All-head, All-tail, All-push}
-use Rattle.fak_channel.specs.Channels.{IsSeatOf}
+use Rattle.fak_channel.specs.Standings.{IsSeatOf}
 use Rattle.fak_channel.specs.declared.end.End.{End}
 use Rattle.fak_channel.specs.declared.seat.ChannelSeat.{ChannelSeat}
 use Rattle.fak_channel.proofs.channel.Channel.ends.Goals as goal

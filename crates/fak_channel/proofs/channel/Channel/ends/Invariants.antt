@@ -1,6 +1,6 @@
 use Rattle.std.proofs.Common.{◌≡◌, ◌++◌, map}
 use Rattle.std.specs.List.{All}
-use Rattle.fak_channel.specs.Channels.{IsSeatOf}
+use Rattle.fak_channel.specs.Standings.{IsSeatOf}
 use Rattle.fak_channel.proofs.channel.Channel.ends.Given as goal
 
 -- the ends so far have the first of the seats, and the other seats are still to come

@@ -1,6 +1,5 @@
 use Rattle.std.proofs.Common.{rules, ◌≡◌, ◌+◌, ◌-◌, ◌++◌, [], ◌∷◌, ap, ◌∙◌, subst, arith}
-use Rattle.fak_channel.specs.Channels.{fresh_channel_seat, fresh_channel_seats}
-use Rattle.fak_channel.specs.Undealt.{AreUndealt}
+use Rattle.fak_channel.specs.Undealt.{AreUndealt, fresh_channel_seat, fresh_channel_seats}
 use Rattle.fak_channel.proofs.Deals.{dealt_next}
 use Rattle.fak_channel.proofs.channel.Channel.seats.Goals as goal
 

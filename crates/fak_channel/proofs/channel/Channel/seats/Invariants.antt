@@ -1,6 +1,5 @@
 use Rattle.std.proofs.Common.{◌≡◌, ◌-◌}
-use Rattle.fak_channel.specs.Channels.{fresh_channel_seats}
-use Rattle.fak_channel.specs.Undealt.{AreUndealt}
+use Rattle.fak_channel.specs.Undealt.{AreUndealt, fresh_channel_seats}
 use Rattle.fak_channel.proofs.channel.Channel.seats.Given as goal
 
 -- the seats below this name are dealt, and the others are still to come

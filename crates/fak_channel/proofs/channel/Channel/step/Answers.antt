@@ -1,16 +1,50 @@
-use Rattle.std.proofs.Common.{rules, ◌≡◌}
-use Rattle.fak_channel.specs.declared.standing.CallStanding.TheVariants.{ReleasingItem, WakingItem}
-use Rattle.fak_channel.proofs.CallSteps.{since_at}
+use Rattle.fak_channel.proofs.CallSteps.{moved_since}
+use Rattle.fak_channel.proofs.Following.{moved_follows}
+use Rattle.fak_channel.proofs.Transitions.{moved_stands}
+use Rattle.fak_channel.specs.declared.standing.ChannelStep.TheVariants.{GoesOn, NotYet, Sleeps, Wakes, Ends}
 use Rattle.fak_channel.proofs.channel.Channel.step.Goals as goal
 
-pub returns-in-ReleasingItem-clause-call : goal.returns-in-ReleasingItem-clause-call
-returns-in-ReleasingItem-clause-call g c = λ asked began since.
-    let so = ReleasingItem c.in-ReleasingItem.outcome in
-    let is : c.args.seat.now.standing ≡ so = search rules in
-    c.release_item.ensures.call asked began (since_at c.args.self.now.queue.size asked began c.args.seat.now so is since)
+pub returns-in-GoesOn-clause-stands : goal.returns-in-GoesOn-clause-stands
+returns-in-GoesOn-clause-stands g c = moved_stands c.args.self.now c.args.seat.now c.advance.new.seat c.requires.stands GoesOn c.in-GoesOn.ensures
 
-pub returns-in-WakingItem-clause-call : goal.returns-in-WakingItem-clause-call
-returns-in-WakingItem-clause-call g c = λ asked began since.
-    let so = WakingItem c.in-WakingItem.outcome in
-    let is : c.args.seat.now.standing ≡ so = search rules in
-    c.wake_receiver.ensures.call asked began (since_at c.args.self.now.queue.size asked began c.args.seat.now so is since)
+pub returns-in-GoesOn-clause-after : goal.returns-in-GoesOn-clause-after
+returns-in-GoesOn-clause-after g c = (moved_follows c.args.self.now c.args.seat.now c.advance.new.seat GoesOn c.requires.in_call c.in-GoesOn.ensures).after
+
+pub returns-in-GoesOn-clause-call : goal.returns-in-GoesOn-clause-call
+returns-in-GoesOn-clause-call g c = moved_since c.args.self.now c.args.seat.now c.advance.new.seat c.requires.stands GoesOn c.in-GoesOn.ensures
+
+pub returns-in-NotYet-clause-stands : goal.returns-in-NotYet-clause-stands
+returns-in-NotYet-clause-stands g c = moved_stands c.args.self.now c.args.seat.now c.advance.new.seat c.requires.stands NotYet c.in-NotYet.ensures
+
+pub returns-in-NotYet-clause-after : goal.returns-in-NotYet-clause-after
+returns-in-NotYet-clause-after g c = (moved_follows c.args.self.now c.args.seat.now c.advance.new.seat NotYet c.requires.in_call c.in-NotYet.ensures).after
+
+pub returns-in-NotYet-clause-call : goal.returns-in-NotYet-clause-call
+returns-in-NotYet-clause-call g c = moved_since c.args.self.now c.args.seat.now c.advance.new.seat c.requires.stands NotYet c.in-NotYet.ensures
+
+pub returns-in-Sleeps-clause-stands : goal.returns-in-Sleeps-clause-stands
+returns-in-Sleeps-clause-stands g c = moved_stands c.args.self.now c.args.seat.now c.advance.new.seat c.requires.stands Sleeps c.in-Sleeps.ensures
+
+pub returns-in-Sleeps-clause-after : goal.returns-in-Sleeps-clause-after
+returns-in-Sleeps-clause-after g c = (moved_follows c.args.self.now c.args.seat.now c.advance.new.seat Sleeps c.requires.in_call c.in-Sleeps.ensures).after
+
+pub returns-in-Sleeps-clause-call : goal.returns-in-Sleeps-clause-call
+returns-in-Sleeps-clause-call g c = moved_since c.args.self.now c.args.seat.now c.advance.new.seat c.requires.stands Sleeps c.in-Sleeps.ensures
+
+pub returns-in-Wakes-clause-stands : goal.returns-in-Wakes-clause-stands
+returns-in-Wakes-clause-stands g c = moved_stands c.args.self.now c.args.seat.now c.advance.new.seat c.requires.stands (Wakes c.in-Wakes.field-0.number) c.in-Wakes.ensures
+
+pub returns-in-Wakes-clause-after : goal.returns-in-Wakes-clause-after
+returns-in-Wakes-clause-after g c = (moved_follows c.args.self.now c.args.seat.now c.advance.new.seat (Wakes c.in-Wakes.field-0.number) c.requires.in_call c.in-Wakes.ensures).after
+
+pub returns-in-Wakes-clause-call : goal.returns-in-Wakes-clause-call
+returns-in-Wakes-clause-call g c = moved_since c.args.self.now c.args.seat.now c.advance.new.seat c.requires.stands (Wakes c.in-Wakes.field-0.number) c.in-Wakes.ensures
+
+pub returns-in-Ends-clause-stands : goal.returns-in-Ends-clause-stands
+returns-in-Ends-clause-stands g c = moved_stands c.args.self.now c.args.seat.now c.advance.new.seat c.requires.stands (Ends c.in-Ends.outcome) c.in-Ends.ensures
+
+pub returns-in-Ends-clause-after : goal.returns-in-Ends-clause-after
+returns-in-Ends-clause-after g c = (moved_follows c.args.self.now c.args.seat.now c.advance.new.seat (Ends c.in-Ends.outcome) c.requires.in_call c.in-Ends.ensures).after
+
+pub returns-in-Ends-clause-call : goal.returns-in-Ends-clause-call
+returns-in-Ends-clause-call g c = moved_since c.args.self.now c.args.seat.now c.advance.new.seat c.requires.stands (Ends c.in-Ends.outcome) c.in-Ends.ensures

@@ -1,12 +1,16 @@
-use Rattle.fak_channel.specs.declared.standing.CallStanding.TheVariants.{Deleting, ReleasingCell}
+use Rattle.std.proofs.Common.{ap, ◌∙◌}
+use Rattle.fak_queue.specs.Queues.{state_of}
+use Rattle.fak_channel.specs.declared.standing.Next.TheVariants.{Ending}
 use Rattle.fak_channel.specs.declared.standing.Outcome.TheVariants.{Received}
-use Rattle.fak_channel.proofs.CallSteps.{item_taken, take_waits}
+use Rattle.fak_channel.specs.Moves.{with_next}
+use Rattle.fak_channel.specs.Standings.{ticket_in}
 use Rattle.fak_channel.proofs.channel.Channel.take_out.Goals as goal
 
-pub returns-in-Some-clause-call : goal.returns-in-Some-clause-call
-returns-in-Some-clause-call g c = λ asked began since.
-    item_taken c.args.self.now.queue.size asked began c.in-Some.item (record c.args.seat.now { standing = Deleting }) c.try_take.new.seat (ReleasingCell (Received c.in-Some.item)) (λ k is. (c.in-Some.ensures.call k is).1) since
-
-pub returns-in-None-clause-call : goal.returns-in-None-clause-call
-returns-in-None-clause-call g c = λ asked began since.
-    take_waits c.args.self.now.queue.size asked began (record c.args.seat.now { standing = Deleting }) c.try_take.new.seat Deleting c.in-None.ensures.state c.in-None.ensures.call since
+pub returns-in-Some : goal.returns-in-Some
+returns-in-Some g c = record {
+  item = c.in-Some.item;
+  calls = record { object = c.in-Some.ensures.object; notes = c.in-Some.ensures.notes };
+  idle = c.in-Some.ensures.state;
+  takes = (c.in-Some.ensures.call (ticket_in (state_of c.args.seat.now.queue.seat)) c.requires.deleting).1;
+  stands = c.set_next-in-Some.ensures ∙ ap (with_next (Ending (Received c.in-Some.item))) c.owe_for_room.ensures;
+}

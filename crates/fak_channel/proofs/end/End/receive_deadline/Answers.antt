@@ -1,5 +1,6 @@
-use Rattle.std.proofs.Common.{rules}
+use Rattle.std.proofs.Math.Logic.{∥∥₁_elim}
+use Rattle.fak_channel.proofs.OneProof.{seat_of_prop}
 use Rattle.fak_channel.proofs.end.End.receive_deadline.Goals as goal
 
-pub returns-clause-call : goal.returns-clause-call
-returns-clause-call g c = search rules
+pub receive_deadline-requires : goal.receive_deadline-requires
+receive_deadline-requires g c = ∥∥₁_elim c.args.self.now.of_channel (seat_of_prop c.args.self.now.channel.now c.args.self.now.seat) (λ h. h)

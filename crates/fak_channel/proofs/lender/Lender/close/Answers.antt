@@ -1,5 +1,5 @@
-use Rattle.fak_channel.proofs.Borrowing.{closed}
+use Rattle.fak_channel.proofs.Borrowing.{closed_by}
 use Rattle.fak_channel.proofs.lender.Lender.close.Goals as goal
 
-pub returns : goal.returns
-returns g c = closed c.end.result.now.channel.now c.end.result.now.seat c.close-closed.new.self.seat c.close-closed.result c.close-closed.ensures.call
+pub returns-clause-call : goal.returns-clause-call
+returns-clause-call g c = closed_by c.end.result.now.channel.now c.end.result.now.seat c.close-closed.new.self.seat c.close-closed.result c.close-closed.ensures.call

@@ -9,4 +9,4 @@ pub returns-then-seat_channel-clause-opens : goal.returns-then-seat_channel-clau
 returns-then-seat_channel-clause-opens c =
     let len = c.seat_channel.ensures.len in
     let made = c.in-Ok.ensures in
-    inl (refl, subst (λ k. IsInLargeRange (IsLargeSize c.args.size) k c.args.stint) (sym len) made.0, opened_channel len c.in-Ok.channel (arc_value c.in-Ok-new.channel) c.in-Ok-new.ensures.ok made.1 made.2 made.3 made.4 (c.seat_channel.ensures.seated c.if-seat_channel.true))
+    inl (refl, subst (λ k. IsInLargeRange (IsLargeSize c.args.size) k c.args.stint) (sym len) made.0, opened_channel len c.in-Ok.channel (arc_value c.in-Ok-new.channel) c.in-Ok-new.ensures.ok made.1 made.2 (c.seat_channel.ensures.seated c.if-seat_channel.true))

@@ -8,6 +8,6 @@ pub returns-in-Some : goal.returns-in-Some
 returns-in-Some g c =
     let p = c.args.self.now in
     let is = c.in-Some.ensures.value in (
-      ap (λ k. read_of (ghost_name_of c.lend.result) (with_seat_at g.K.Kind.with_seat p k) (record p { handle = record p.handle { desk = k } })) (sym is),
-      record { writes_back = tt; value = subst (λ k. MatchOption c.lend.result (g.K.Kind.seat_in k ≡ None) (λ r. g.K.Kind.seat_in k ≡ Some r.now)) (sym is) c.lend.ensures.value },
+      ap (λ k. read_of (ghost_name_of c.lend.result) (with_seat_at g.K.SeatKind.with_seat p k) (record p { handle = record p.handle { desk = k } })) (sym is),
+      record { writes_back = tt; value = subst (λ k. MatchOption c.lend.result (g.K.SeatKind.seat_in k ≡ None) (λ r. g.K.SeatKind.seat_in k ≡ Some r.now)) (sym is) c.lend.ensures.value },
     )

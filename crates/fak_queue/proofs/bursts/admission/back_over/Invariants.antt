@@ -1,7 +1,7 @@
 use Rattle.std.specs.Prelude.{◌-◌, ◌++◌, length, take, drop}
 use Rattle.fak_core.specs.declared.queue.phase.Phase.TheVariants.{Idle, TicketIn}
 use Rattle.fak_core.specs.QueueBlocks.{all_at}
-use Rattle.fak_queue.specs.declared.standing.Standing.TheVariants.{Each}
+use Rattle.fak_queue.specs.declared.phases.Phases.TheVariants.{Each}
 use Rattle.fak_queue.specs.Bursts.{idle_posts, pair_up}
 use Rattle.fak_queue.proofs.bursts.admission.back_over.Given as goal
 

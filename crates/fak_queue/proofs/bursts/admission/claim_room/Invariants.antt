@@ -1,6 +1,6 @@
 use Rattle.std.specs.Prelude.{length, drop}
 use Rattle.fak_core.specs.declared.queue.phase.Phase.TheVariants.{Idle}
-use Rattle.fak_queue.specs.declared.standing.Standing.TheVariants.{Alike}
+use Rattle.fak_queue.specs.declared.phases.Phases.TheVariants.{Alike}
 use Rattle.fak_queue.specs.Bursts.{idle_posts, pair_up}
 use Rattle.fak_queue.proofs.bursts.admission.claim_room.Given as goal
 

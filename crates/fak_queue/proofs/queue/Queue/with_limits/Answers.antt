@@ -7,8 +7,8 @@ use Rattle.fak_queue.proofs.queue.Queue.with_limits.Goals as goal
 pub split_seat-requires : goal.split_seat-requires
 split_seat-requires g c = (search rules, search rules, deals (queue_object c.in-Ok.table.shared.key.size c.in-Ok.table.shared.key.seats) (Alike Idle) c.args.stint c.loop-name.name c.args.seats c.loop-name.rest.id c.loop-name.rest.me (search rules) c.loop-name.invariant.1)
 
-pub invariant_of-seat : goal.invariant_of-seat
-invariant_of-seat g c =
+pub invariant_of-parts : goal.invariant_of-parts
+invariant_of-parts g c =
     let dealt = c.split_seat.ensures.4 ∙ dealt_is (queue_object c.in-Ok.table.shared.key.size c.in-Ok.table.shared.key.seats) (Alike Idle) c.args.stint c.loop-name.name c.args.seats c.loop-name.rest.id c.loop-name.rest.me (search rules) c.loop-name.invariant.1 in
     fresh_keeps _ c.args.seats c.loop-name.name c.args.stint c.split_seat.result.me dealt (fresh_token seat_of c.args.seats (Alike Idle) c.args.stint c.loop-name.name c.split_seat.result.me dealt (search rules) (search rules))
 

@@ -1,0 +1,44 @@
+//! What follows for the callers of channels: nobody sleeps while there is an item, a free cell or a close.
+
+ghost use Rattle.std.specs.Prelude.{◌≡◌, ℕ, ◌<◌, true, Option, length, reverse};
+ghost use Rattle.atomic_table.specs.Table.{State};
+ghost use Rattle.fak_model.specs.Queue.{contents};
+ghost use Rattle.fak_queue.specs.declared.limits.QueueLimits.{QueueLimits};
+ghost use Rattle.fak_queue.specs.Shown.{IsShownQueue, QueueView};
+ghost use Rattle.fak_queue.specs.SleeperRest.{OwesNothing};
+ghost use Rattle.fak_queue.specs.SleeperSeats.{account_of_seat};
+ghost use Rattle.fak_channel.specs.declared.channel.Channel.{Channel};
+ghost use Rattle.fak_channel.specs.declared.seat.ChannelSeat.{ChannelSeat};
+ghost use Rattle.fak_channel.specs.declared.standing.Wish.TheVariants.{Receive, Send};
+ghost use Rattle.fak_channel.specs.EndsAtRest.{AllEndsRest, EndSleeps};
+ghost use Rattle.fak_channel.specs.Standings.{IsSeatOf};
+
+use fak_channel::laws::{an_end_that_waits_owes_nothing, no_end_sleeps_beside_work};
+use fak_channel::{Channel, ChannelSeat};
+
+/// If only sleepers have open calls, no receiver sleeps while there is an item, no sender while there is a free cell, and
+/// nobody in a channel that is closed.
+pub fn an_item_a_free_cell_and_a_close_keep_ends_awake<T>()
+    ensures item { (c : Channel T) (key : QueueLimits) (s : State (Option T) (QueueView T))
+        (shown : IsShownQueue key s) (ends : ℕ → ChannelSeat T) → AllEndsRest c key s ends → (n : ℕ) → n < key.seats
+        → 0 < length (contents (reverse shown.core.past)) → (sleeps : EndSleeps key s (ends n)) → sleeps.wish ≡ Receive
+        → ⊥ }
+    ensures cell { (c : Channel T) (key : QueueLimits) (s : State (Option T) (QueueView T))
+        (shown : IsShownQueue key s) (ends : ℕ → ChannelSeat T) → AllEndsRest c key s ends → (n : ℕ) → n < key.seats
+        → length (contents (reverse shown.core.past)) < key.size → (sleeps : EndSleeps key s (ends n)) → (x : T)
+        → sleeps.wish ≡ Send x → ⊥ }
+    ensures close { (c : Channel T) (key : QueueLimits) (s : State (Option T) (QueueView T))
+        (shown : IsShownQueue key s) (ends : ℕ → ChannelSeat T) → AllEndsRest c key s ends → (n : ℕ) → n < key.seats
+        → shown.core.shut ≡ true → (sleeps : EndSleeps key s (ends n)) → sleeps.wish ≡ Receive → ⊥ }
+{
+    no_end_sleeps_beside_work::<T>();
+}
+
+/// Makes a seat go by steps. Between two calls it owes no look and no check.
+pub fn take_steps<T: Drop>(channel: &Channel<T>, seat: ChannelSeat<T>) -> ChannelSeat<T>
+    requires { IsSeatOf channel.now seat }
+    ensures { OwesNothing (account_of_seat result.queue) }
+{
+    an_end_that_waits_owes_nothing::<T>();
+    channel.step_seat(seat)
+}

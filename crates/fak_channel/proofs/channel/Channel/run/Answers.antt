@@ -1,0 +1,38 @@
+use Rattle.fak_channel.proofs.Runs.{begins_run, goes_on, waits_on, wakes_on, sleeps_on, ended_idle, ended_stands, ended_tries, ended_all}
+use Rattle.fak_channel.proofs.channel.Channel.run.Goals as goal
+
+pub loop-init : goal.loop-init
+loop-init g c = begins_run c.args.self.now c.args.seat.now c.requires.stands c.requires.in_call
+
+pub advance-requires-clause-stands : goal.advance-requires-clause-stands
+advance-requires-clause-stands g c = c.loop.invariant.stands
+
+pub advance-requires-clause-in_call : goal.advance-requires-clause-in_call
+advance-requires-clause-in_call g c = c.loop.invariant.in_call
+
+pub loop-preserved-in-GoesOn : goal.loop-preserved-in-GoesOn
+loop-preserved-in-GoesOn g c = goes_on c.args.self.now c.args.seat.now c.loop.seat c.advance.new.seat c.loop.invariant c.in-GoesOn.ensures
+
+pub loop-preserved-in-NotYet : goal.loop-preserved-in-NotYet
+loop-preserved-in-NotYet g c = waits_on c.args.self.now c.args.seat.now c.loop.seat c.advance.new.seat c.loop.invariant c.in-NotYet.ensures
+
+pub loop-preserved : goal.loop-preserved
+loop-preserved g c = wakes_on c.args.self.now c.args.seat.now c.loop.seat c.advance.new.seat c.loop.invariant c.in-Wakes.wake.number c.in-Wakes.ensures
+
+pub returns-in-Sleeps-clause-stands : goal.returns-in-Sleeps-clause-stands
+returns-in-Sleeps-clause-stands g c = (sleeps_on c.args.self.now c.args.seat.now c.loop.seat c.advance.new.seat c.loop.invariant c.in-Sleeps.ensures).continues.stands
+
+pub returns-in-Sleeps-clause-tries : goal.returns-in-Sleeps-clause-tries
+returns-in-Sleeps-clause-tries g c = (sleeps_on c.args.self.now c.args.seat.now c.loop.seat c.advance.new.seat c.loop.invariant c.in-Sleeps.ensures).continues.tries
+
+pub returns-in-Sleeps-clause-call : goal.returns-in-Sleeps-clause-call
+returns-in-Sleeps-clause-call g c = let p = sleeps_on c.args.self.now c.args.seat.now c.loop.seat c.advance.new.seat c.loop.invariant c.in-Sleeps.ensures in (p.asleep, p.continues.since)
+
+pub returns-in-Ends-clause-stands : goal.returns-in-Ends-clause-stands
+returns-in-Ends-clause-stands g c = ended_stands c.args.self.now c.args.seat.now c.loop.seat c.advance.new.seat c.loop.invariant c.in-Ends.outcome c.in-Ends.ensures
+
+pub returns-in-Ends-clause-tries : goal.returns-in-Ends-clause-tries
+returns-in-Ends-clause-tries g c = ended_tries c.args.self.now c.args.seat.now c.loop.seat c.advance.new.seat c.loop.invariant c.in-Ends.outcome c.in-Ends.ensures
+
+pub returns-in-Ends-clause-call : goal.returns-in-Ends-clause-call
+returns-in-Ends-clause-call g c = (ended_idle c.args.self.now c.args.seat.now c.loop.seat c.advance.new.seat c.loop.invariant c.in-Ends.outcome c.in-Ends.ensures, ended_all c.args.self.now c.args.seat.now c.loop.seat c.advance.new.seat c.loop.invariant c.in-Ends.outcome c.in-Ends.ensures)

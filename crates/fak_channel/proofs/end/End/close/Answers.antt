@@ -1,0 +1,6 @@
+use Rattle.std.proofs.Math.Logic.{∥∥₁_elim}
+use Rattle.fak_channel.proofs.OneProof.{seat_of_prop}
+use Rattle.fak_channel.proofs.end.End.close.Goals as goal
+
+pub close-requires : goal.close-requires
+close-requires g c = ∥∥₁_elim c.args.self.now.of_channel (seat_of_prop c.args.self.now.channel.now c.args.self.now.seat) (λ h. h)

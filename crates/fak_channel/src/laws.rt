@@ -1,0 +1,41 @@
+//! What callers can conclude from the standing of an end.
+
+ghost use Rattle.std.specs.Prelude.{◌≡◌, ℕ, ◌<◌, false, List, [], Option, length, reverse};
+ghost use Rattle.atomic_table.specs.Table.{State};
+ghost use Rattle.fak_model.specs.Queue.{contents};
+ghost use Rattle.fak_channel_core.specs.SleeperSides.{Asleep, Awake};
+ghost use Rattle.fak_queue.specs.declared.limits.QueueLimits.{QueueLimits};
+ghost use Rattle.fak_queue.specs.Shown.{IsShownQueue, QueueView};
+ghost use Rattle.fak_channel.specs.declared.channel.Channel.{Channel};
+ghost use Rattle.fak_channel.specs.declared.seat.ChannelSeat.{ChannelSeat};
+ghost use Rattle.fak_channel.specs.declared.standing.Next.TheVariants.{Sleeping};
+ghost use Rattle.fak_channel.specs.declared.standing.Wish.{Wish};
+ghost use Rattle.fak_channel.specs.declared.standing.Wish.TheVariants.{Receive, Send};
+ghost use Rattle.fak_channel.specs.EndsAtRest.{AllEndsRest, EndSleeps, RestsAs};
+ghost use Rattle.fak_channel.specs.Standings.{IsBetweenCalls, IsStepSeatOf};
+
+use fak_queue::laws::sleepers::no_seat_sleeps_beside_work;
+
+/// An end between two calls owes nothing to others, and is awake in both roles. An end whose call sleeps owes nothing
+/// either, and by its notes it is asleep in the role of its wish.
+pub fn an_end_that_waits_owes_nothing<T>()
+    ensures idle { (c : Channel T) (e : ChannelSeat T) (w : Wish T) → IsStepSeatOf c e → IsBetweenCalls e
+        → RestsAs w Awake e }
+    ensures asleep { (c : Channel T) (e : ChannelSeat T) (w : Wish T) → IsStepSeatOf c e → e.standing.next ≡ Sleeping w
+        → RestsAs w Asleep e }
+{}
+
+/// No wake-up is lost in a running channel. Between any two steps: if only sleepers have open calls, a receiver sleeps only if
+/// the channel is empty and open, and a sender only if it is full and open.
+pub fn no_end_sleeps_beside_work<T>()
+    ensures receiver { (c : Channel T) (key : QueueLimits) (s : State (Option T) (QueueView T))
+        (shown : IsShownQueue key s) (ends : ℕ → ChannelSeat T) → AllEndsRest c key s ends → (n : ℕ) → n < key.seats
+        → (sleeps : EndSleeps key s (ends n)) → sleeps.wish ≡ Receive
+        → (contents (reverse shown.core.past) ≡ []) × (shown.core.shut ≡ false) }
+    ensures sender { (c : Channel T) (key : QueueLimits) (s : State (Option T) (QueueView T))
+        (shown : IsShownQueue key s) (ends : ℕ → ChannelSeat T) → AllEndsRest c key s ends → (n : ℕ) → n < key.seats
+        → (sleeps : EndSleeps key s (ends n)) → (x : T) → sleeps.wish ≡ Send x
+        → (length (contents (reverse shown.core.past)) ≡ key.size) × (shown.core.shut ≡ false) }
+{
+    no_seat_sleeps_beside_work::<T>();
+}

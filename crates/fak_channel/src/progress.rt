@@ -1,0 +1,25 @@
+//! What a step of a call returns inside this crate.
+
+use crate::standing::Outcome;
+
+/// The thread of this end is to be woken, since its bit was cleared. It cannot be dropped, so no step loses a wake.
+pub(crate) struct Wake {
+    pub(crate) number: u64,
+}
+
+/// The result of a step of a call, as `ChannelStep`.
+pub(crate) enum Progress<T> {
+    GoesOn,
+    NotYet,
+    Sleeps,
+    Wakes(Wake),
+    Ends(Outcome<T>),
+}
+
+/// Why the steps of a call stop.
+pub(crate) enum Stop<T> {
+    /// The call sleeps, or it is a try that would have to.
+    Sleeps,
+    /// The call is done.
+    Ends(Outcome<T>),
+}

@@ -1,5 +1,0 @@
-use Rattle.fak_queue.proofs.Common.{rules}
-use Rattle.fak_queue.proofs.seat.Seat.set_pauses_in_calls.Goals as goal
-
-pub invariant_of-self : goal.invariant_of-self
-invariant_of-self g c = search rules

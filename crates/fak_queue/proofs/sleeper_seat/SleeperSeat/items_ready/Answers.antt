@@ -1,0 +1,9 @@
+use Rattle.fak_queue.proofs.SleeperCalls.{more_observed}
+use Rattle.fak_queue.proofs.SleeperSeats.{keeps_notes_by, knows_after}
+use Rattle.fak_queue.proofs.sleeper_seat.SleeperSeat.items_ready.Goals as goal
+
+pub invariant_of-self : goal.invariant_of-self
+invariant_of-self g c = knows_after c.self.invariant _ c.items_ready_by.ensures.noted (more_observed _ _ _ c.items_ready_by.ensures.makes)
+
+pub returns-clause-notes : goal.returns-clause-notes
+returns-clause-notes g c = keeps_notes_by c.self.view_is c.self.invariant _ c.items_ready_by.ensures.noted _

@@ -1,0 +1,6 @@
+use Rattle.fak_queue.specs.declared.role.Role.TheVariants.{Sender}
+use Rattle.fak_queue.proofs.sleeper_seat.SleeperSeat.test_item_again.Given as goal
+
+-- the step of this seat on this queue
+abbrev pub ghosts-test_item_again : goal.ghosts-test_item_again
+ghosts-test_item_again g a = record { seats = a.words.now.key.seats; role = Sender; number = 0 }
