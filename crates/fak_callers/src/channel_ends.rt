@@ -1,6 +1,6 @@
 //! What follows for the callers of channels: nobody sleeps while there is an item, a free cell or a close.
 
-ghost use Rattle.std.specs.Prelude.{◌≡◌, ℕ, ◌<◌, true, Option, length, reverse};
+ghost use Rattle.std.specs.Prelude.{◌≡◌, ◌≢◌, ℕ, ◌<◌, true, Option, length, reverse};
 ghost use Rattle.atomic_table.specs.Table.{State};
 ghost use Rattle.fak_model.specs.Queue.{contents};
 ghost use Rattle.fak_queue.specs.declared.limits.QueueLimits.{QueueLimits};
@@ -9,11 +9,18 @@ ghost use Rattle.fak_queue.specs.SleeperRest.{OwesNothing};
 ghost use Rattle.fak_queue.specs.SleeperSeats.{account_of_seat};
 ghost use Rattle.fak_channel.specs.declared.channel.Channel.{Channel};
 ghost use Rattle.fak_channel.specs.declared.seat.ChannelSeat.{ChannelSeat};
+ghost use Rattle.fak_channel.specs.declared.standing.ChannelStep.TheVariants.{Sleeps};
+ghost use Rattle.fak_channel.specs.declared.standing.Next.TheVariants.{Sleeping};
+ghost use Rattle.fak_channel.specs.declared.standing.Wish.{Wish};
 ghost use Rattle.fak_channel.specs.declared.standing.Wish.TheVariants.{Receive, Send};
 ghost use Rattle.fak_channel.specs.EndsAtRest.{AllEndsRest, EndSleeps};
+ghost use Rattle.fak_channel.specs.Moves.{Moves};
 ghost use Rattle.fak_channel.specs.Standings.{IsSeatOf};
 
-use fak_channel::laws::{an_end_that_waits_owes_nothing, no_end_sleeps_beside_work};
+use fak_channel::laws::{
+    an_end_that_sleeps_on_finds_its_bit_set, an_end_that_waits_owes_nothing,
+    no_end_sleeps_beside_work,
+};
 use fak_channel::{Channel, ChannelSeat};
 
 /// If only sleepers have open calls, no receiver sleeps while there is an item, no sender while there is a free cell, and
@@ -41,4 +48,12 @@ pub fn take_steps<T: Drop>(channel: &Channel<T>, seat: ChannelSeat<T>) -> Channe
 {
     an_end_that_waits_owes_nothing::<T>();
     channel.step_seat(seat)
+}
+
+/// A step that noted nothing has not looked: no call sleeps on by it.
+pub fn who_has_not_looked_does_not_sleep_on<T>()
+    ensures { (c : Channel T) (w : Wish T) (old new : ChannelSeat T) → old.standing.next ≡ Sleeping w
+        → new.queue.notes ≡ old.queue.notes → Moves c old new Sleeps → ⊥ }
+{
+    an_end_that_sleeps_on_finds_its_bit_set::<T>();
 }

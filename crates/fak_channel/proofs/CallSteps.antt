@@ -1,9 +1,9 @@
 -- How each step of a call adds to what the call has done so far.
-use Rattle.std.proofs.Common.{◌≡◌, ◌≢◌, ◌⊎◌, ℕ, ◌+◌, ◌<◌, Bool, true, false, refl, ap, sym, ◌∙◌, subst, inl, inr, arith, List, [], ◌∷◌, ◌++◌, length, Option, Some, None, if◌then◌else◌}
+use Rattle.std.proofs.Common.{◌≡◌, ◌≢◌, ◌⊎◌, ℕ, ◌+◌, ◌<◌, Bool, true, false, refl, ap, sym, ◌∙◌, subst, inl, inr, arith, List, [], ◌∷◌, ◌++◌, length, replicate, suc, Option, Some, None, if◌then◌else◌}
 use Rattle.fak_model.specs.declared.note.Note.{Note}
 use Rattle.fak_model.specs.declared.note.NoteKind.{NoteKind}
 use Rattle.fak_model.specs.declared.note.NoteKind.TheVariants.{AsSender, AsReceiver, Checks}
-use Rattle.fak_model.specs.declared.note.Sign.TheVariants.{FallsAsleep, TakesBack}
+use Rattle.fak_model.specs.declared.note.Sign.TheVariants.{FallsAsleep, TakesBack, FindsBit}
 use Rattle.fak_model.specs.declared.queue.Kind.TheVariants as made
 use Rattle.fak_model.specs.declared.queue.Mark.{Mark}
 use Rattle.fak_model.specs.Calls.{SeatInfo}
@@ -31,7 +31,7 @@ use Rattle.fak_channel.specs.declared.standing.Wish.{Wish}
 use Rattle.fak_channel.specs.declared.standing.Wish.TheVariants.{Send, Receive}
 use Rattle.fak_channel.specs.Standings.{IsStepSeatOf, StandsSo, OwesNone, MayClaim, HasTicket, role_of, ticket_in}
 use Rattle.fak_channel.specs.Moves.{Debt, Look, Check, None_owed, looks_for, with_looks, with_next, checked, refused_next, Calls, WasRefused, LoadsWord, passes, goes_round, finds, ClearsBit, LooksOnce, ClaimsRoom, room_granted, found_full, found_closed, ClaimsItem, item_granted, found_empty, FillsCell, WaitsForRoom, TakesItem, WaitsForItem, ChecksEmpty, found_drained, found_none, TestsRoom, sender_sleeps, room_came, TestsItem, no_item_yet, item_came, TestsDrained, receiver_sleeps, drained_meanwhile, ClearsOwn, FindsWake, FindsBitSet, OnlyStands, ShutsQueue, SetsBit, MovesNext, PaysCheck, ChecksOnce, MovesBy, Moves}
-use Rattle.fak_channel.specs.Channels.{NotesMore, HasFallenAsleep, HasTakenBack, Sends, FindsClosed, Receives, IsOver, ClosesAs}
+use Rattle.fak_channel.specs.Channels.{NotesMore, HasFallenAsleep, HasTakenBack, slept, Sends, FindsClosed, Receives, IsOver, ClosesAs}
 use Rattle.fak_channel.specs.Marks.{Looked, HasFoundFull, FullSoFar, HasFoundEmpty, EmptySoFar}
 use Rattle.fak_channel.specs.ChannelSteps.{Asked, Sending, Receiving, Closing, WaitsSince, RefusedSince, InsertsAs, DeletesAs, ShutsSince, EndsAs, SinceAt, CallSince, StepsTo, HasGoneOn, none, more}
 use Rattle.fak_channel.proofs.Marking.{looked_more, put_on, full_again, full_more, empty_again, empty_more, claimed_in, looked_in, claimed_out, looked_out, deleted_out, inserted_at_last, closed_at_last, made_first}
@@ -60,19 +60,33 @@ module _ {T : Type 0} {size : ℕ} (role : Role) (began old new : SleeperInfo T)
   fallen : AddsNote size (as_role role FallsAsleep) old new → NotesMore began old → HasFallenAsleep role began new
   fallen l m = record {
     more = m.0;
+    loads = 0;
     notes = l.notes_are ∙ (note_kept (as_role role FallsAsleep) old.notes l.makes ∙ ap (λ (rest : List Note). note_of (as_role role FallsAsleep) new ∷ rest) m.1);
   }
 
+  -- a step that leaves no mark does not change what its sleep has noted
+  slept_same : Makes size [] old.seat new.seat → (loads : ℕ) (before : List Note) → slept role loads old before ≡ slept role loads new before
+  slept_same makes loads before =
+      let name : new.seat.name ≡ old.seat.name = ap (λ (s : SeatInfo (Mark T)). s.name) makes.same_seat in
+      let found = ap (λ (k : ℕ). note_of (as_role role (FindsBit k true)) old) (sym name) ∙ note_same old new (as_role role (FindsBit new.seat.name true)) makes in
+      ap (λ (x : Note). replicate loads x ++ (note_of (as_role role FallsAsleep) old ∷ before)) found
+      ∙ ap (λ (x : Note). replicate loads (note_of (as_role role (FindsBit new.seat.name true)) new) ++ (x ∷ before)) (note_same old new (as_role role FallsAsleep) makes)
+
   -- it still sleeps
-  sleeps_on : AddsNoNote size old new → HasFallenAsleep role began old → HasFallenAsleep role began new
-  sleeps_on l h = record { more = h.more; notes = l.notes_are ∙ (h.notes ∙ note_kept (as_role role FallsAsleep) (h.more ++ began.notes) l.makes) }
+  sleeps_on : AddsNote size (as_role role (FindsBit old.seat.name true)) old new → HasFallenAsleep role began old → HasFallenAsleep role began new
+  sleeps_on l h = record {
+    more = h.more;
+    loads = suc h.loads;
+    notes = l.notes_are ∙ (ap (λ (rest : List Note). note_of (as_role role (FindsBit old.seat.name true)) old ∷ rest) h.notes ∙ slept_same l.makes (suc h.loads) (h.more ++ began.notes));
+  }
 
   -- it takes its bit back
   pub taken_back : AddsNote size (as_role role TakesBack) old new → HasFallenAsleep role began old → HasTakenBack role began new
   taken_back l h = record {
     more = h.more;
+    loads = h.loads;
     notes = l.notes_are ∙ (note_kept (as_role role TakesBack) old.notes l.makes
-        ∙ ap (λ (rest : List Note). note_of (as_role role TakesBack) new ∷ rest) (h.notes ∙ note_kept (as_role role FallsAsleep) (h.more ++ began.notes) l.makes));
+        ∙ ap (λ (rest : List Note). note_of (as_role role TakesBack) new ∷ rest) (h.notes ∙ slept_same l.makes h.loads (h.more ++ began.notes)));
   }
 
 module _ {T : Type 0} (size : ℕ) (asked : Asked T) (began old new : ChannelSeat T) where
@@ -162,15 +176,15 @@ module _ {T : Type 0} (c : Channel T) (asked : Asked T) (began old new : Channel
   module _ (q : SleeperInfo T) (g : Account) (so : StandsSo s.next s q g) where
     look_since : (role : Role) → (looks_for role s).is_owed ≡ true → LoadsWord c.ends size role (looks_for role s) old new → CallSince size asked began new
     look_since Sender owed (passes l stands) = by_standing _ stands (signed l) (owing_since size asked began old new l.makes s.next s q g l.left (λ o. both_of owed o.senders) so since.since)
-    look_since Sender owed (goes_round l some stands) = by_standing _ stands (heard l) (owing_since size asked began old new l.makes s.next s q g l.left (λ o. both_of owed o.senders) so since.since)
-    look_since Sender owed (finds k l same some stands) = by_standing _ stands (heard l) (owing_since size asked began old new l.makes s.next s q g l.left (λ o. both_of owed o.senders) so since.since)
+    look_since Sender owed (goes_round found l some at stands) = by_standing _ stands (signed l) (owing_since size asked began old new l.makes s.next s q g l.left (λ o. both_of owed o.senders) so since.since)
+    look_since Sender owed (finds k found l at stands) = by_standing _ stands (signed l) (owing_since size asked began old new l.makes s.next s q g l.left (λ o. both_of owed o.senders) so since.since)
     look_since Receiver owed (passes l stands) = by_standing _ stands (signed l) (owing_since size asked began old new l.makes s.next s q g l.left (λ o. both_of owed o.receivers) so since.since)
-    look_since Receiver owed (goes_round l some stands) = by_standing _ stands (heard l) (owing_since size asked began old new l.makes s.next s q g l.left (λ o. both_of owed o.receivers) so since.since)
-    look_since Receiver owed (finds k l same some stands) = by_standing _ stands (heard l) (owing_since size asked began old new l.makes s.next s q g l.left (λ o. both_of owed o.receivers) so since.since)
+    look_since Receiver owed (goes_round found l some at stands) = by_standing _ stands (signed l) (owing_since size asked began old new l.makes s.next s q g l.left (λ o. both_of owed o.receivers) so since.since)
+    look_since Receiver owed (finds k found l at stands) = by_standing _ stands (signed l) (owing_since size asked began old new l.makes s.next s q g l.left (λ o. both_of owed o.receivers) so since.since)
 
     clear_since : (role : Role) (k : ℕ) (r : ChannelStep T) → (looks_for role s).is_owed ≡ true → ClearsBit c.ends size role (looks_for role s) old new k r → StepsTo size asked began new r
-    clear_since Sender k GoesOn owed m = by_standing _ m.1 (heard m.0) (owing_since size asked began old new m.0.makes s.next s q g m.0.left (λ o. both_of owed o.senders) so since.since)
-    clear_since Receiver k GoesOn owed m = by_standing _ m.1 (heard m.0) (owing_since size asked began old new m.0.makes s.next s q g m.0.left (λ o. both_of owed o.receivers) so since.since)
+    clear_since Sender k GoesOn owed m = by_standing _ m.1 (signed m.0) (owing_since size asked began old new m.0.makes s.next s q g m.0.left (λ o. both_of owed o.senders) so since.since)
+    clear_since Receiver k GoesOn owed m = by_standing _ m.1 (signed m.0) (owing_since size asked began old new m.0.makes s.next s q g m.0.left (λ o. both_of owed o.receivers) so since.since)
     clear_since role k NotYet owed m = absurd m
     clear_since role k Sleeps owed m = absurd m
     clear_since Sender k (Wakes number) owed m = by_standing _ m.2 (signed m.1) (owing_since size asked began old new m.1.makes s.next s q g m.1.left (λ o. both_of owed o.senders) so since.since)
@@ -418,7 +432,7 @@ module _ {T : Type 0} (c : Channel T) (asked : Asked T) (began old new : Channel
   next_since (Sleeping w) GoesOn is h m = own_since w false h.0 m.signs m.stands
   next_since (Sleeping w) NotYet is h m = absurd m
   next_since (Sleeping w) Sleeps is h m =
-      by_standing s m.stands (heard m.hears) (subst (λ (x : Next T). SinceAt size x asked began new) (sym is) (refused_on size asked began old new m.hears.makes w m.hears.left h.0, sleeps_on (role_of w) began.queue old.queue new.queue m.hears h.1))
+      by_standing s m.stands (signed m.signs) (subst (λ (x : Next T). SinceAt size x asked began new) (sym is) (refused_on size asked began old new m.signs.makes w m.signs.left h.0, sleeps_on (role_of w) began.queue old.queue new.queue m.signs h.1))
   next_since (Sleeping w) (Wakes k) is h m = absurd m
   next_since (Sleeping w) (Ends o) is h m = absurd m
   next_since (Refusing w) GoesOn is h m = absurd m

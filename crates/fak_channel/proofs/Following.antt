@@ -51,11 +51,11 @@ module _ {T : Type 0} (c : Channel T) (old new : ChannelSeat T) where
 
   look_follows : {ends size : ℕ} (role : Role) → IsInCall old → LoadsWord ends size role (looks_for role s) old new → Follows GoesOn
   look_follows Sender in_call (passes l stands) = goes _ stands refl in_call
-  look_follows Sender in_call (goes_round l some stands) = goes _ stands refl in_call
-  look_follows Sender in_call (finds k l same some stands) = goes _ stands refl in_call
+  look_follows Sender in_call (goes_round found l some at stands) = goes _ stands refl in_call
+  look_follows Sender in_call (finds k found l at stands) = goes _ stands refl in_call
   look_follows Receiver in_call (passes l stands) = goes _ stands refl in_call
-  look_follows Receiver in_call (goes_round l some stands) = goes _ stands refl in_call
-  look_follows Receiver in_call (finds k l same some stands) = goes _ stands refl in_call
+  look_follows Receiver in_call (goes_round found l some at stands) = goes _ stands refl in_call
+  look_follows Receiver in_call (finds k found l at stands) = goes _ stands refl in_call
 
   clear_follows : (ends size : ℕ) (role : Role) (k : ℕ) (r : ChannelStep T) → IsInCall old → ClearsBit ends size role (looks_for role s) old new k r → Follows r
   clear_follows ends size Sender k GoesOn in_call m = goes _ m.1 refl in_call

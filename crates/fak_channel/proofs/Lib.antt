@@ -1,4 +1,5 @@
 pub mod Covering
+pub mod FirstBit
 pub mod Transitions
 pub mod Marking
 pub mod CallSteps

@@ -3,7 +3,7 @@ use Rattle.std.proofs.Common.{◌≡◌, ◌≢◌, ◌⊎◌, ℕ, ◌+◌, ◌
 use Rattle.fak_model.specs.Limits.{large_seats}
 use Rattle.fak_model.specs.declared.note.NoteKind.{NoteKind}
 use Rattle.fak_model.specs.declared.note.NoteKind.TheVariants.{AsSender, AsReceiver, Checks}
-use Rattle.fak_model.specs.declared.note.Sign.TheVariants.{Registers, FindsNoItem, FallsAsleep, IsWoken, TakesBack, PassesWord, WakesEnd}
+use Rattle.fak_model.specs.declared.note.Sign.TheVariants.{Registers, FindsNoItem, FallsAsleep, IsWoken, TakesBack, FindsBit, PassesWord, FindsWord, WakesEnd}
 use Rattle.fak_model.specs.declared.queue.Kind.{Kind}
 use Rattle.fak_model.specs.declared.queue.Kind.TheVariants as made
 use Rattle.fak_model.specs.declared.queue.Mark.{Mark}
@@ -128,19 +128,21 @@ module _ {T : Type 0} (c : Channel T) (old new : ChannelSeat T) (S : IsStepSeatO
   looked Sender owed (passes signs stands) =
       put_signed (AsSender (PassesWord (word_at s.senders))) signs (record s { senders = past_word n s.senders }) stands (covers_past owed S.pays.senders) S.pays.receivers
       (owing_next s.next s _ old.queue new.queue g _ refl (λ o. not_both owed o.senders) (λ e. e) (λ e. e) (λ may. may_step old.queue new.queue signs may) signs.state (λ up. record { sender = up.sender; receiver = up.receiver }) S.next)
-  looked Sender owed (goes_round hears some stands) =
-      put_heard hears (record s { senders = past_bits n s.senders }) stands (covers_round owed S.pays.senders) S.pays.receivers (owing_next s.next s _ old.queue new.queue g _ refl (λ o. not_both owed o.senders) (λ e. e) (λ e. e) (λ may. may_step old.queue new.queue hears may) hears.state (λ up. up) S.next)
-  looked Sender owed (finds k hears same some stands) =
-      put_heard hears (record s { senders = finding k s.senders }) stands (covers_finding k (small_found s.senders g.sender k S.pays.senders same) S.pays.senders) S.pays.receivers
-      (owing_next s.next s _ old.queue new.queue g _ refl (λ o. not_both owed o.senders) (λ e. e) (λ e. e) (λ may. may_step old.queue new.queue hears may) hears.state (λ up. up) S.next)
+  looked Sender owed (goes_round found signs some at stands) =
+      put_signed (AsSender (FindsWord (word_at s.senders) found)) signs (record s { senders = past_bits n s.senders }) stands (covers_round owed S.pays.senders) S.pays.receivers
+      (owing_next s.next s _ old.queue new.queue g _ refl (λ o. not_both owed o.senders) (λ e. e) (λ e. e) (λ may. may_step old.queue new.queue signs may) signs.state (λ up. up) S.next)
+  looked Sender owed (finds k found signs at stands) =
+      put_signed (AsSender (FindsWord (word_at s.senders) found)) signs (record s { senders = finding k s.senders }) stands (covers_finding k (small_found s.senders g.sender k S.pays.senders at.0) S.pays.senders) S.pays.receivers
+      (owing_next s.next s _ old.queue new.queue g _ refl (λ o. not_both owed o.senders) (λ e. e) (λ e. e) (λ may. may_step old.queue new.queue signs may) signs.state (λ up. up) S.next)
   looked Receiver owed (passes signs stands) =
       put_signed (AsReceiver (PassesWord (word_at s.receivers))) signs (record s { receivers = past_word n s.receivers }) stands S.pays.senders (covers_past owed S.pays.receivers)
       (owing_next s.next s _ old.queue new.queue g _ refl (λ o. not_both owed o.receivers) (λ e. e) (λ e. e) (λ may. may_step old.queue new.queue signs may) signs.state (λ up. record { sender = up.sender; receiver = up.receiver }) S.next)
-  looked Receiver owed (goes_round hears some stands) =
-      put_heard hears (record s { receivers = past_bits n s.receivers }) stands S.pays.senders (covers_round owed S.pays.receivers) (owing_next s.next s _ old.queue new.queue g _ refl (λ o. not_both owed o.receivers) (λ e. e) (λ e. e) (λ may. may_step old.queue new.queue hears may) hears.state (λ up. up) S.next)
-  looked Receiver owed (finds k hears same some stands) =
-      put_heard hears (record s { receivers = finding k s.receivers }) stands S.pays.senders (covers_finding k (small_found s.receivers g.receiver k S.pays.receivers same) S.pays.receivers)
-      (owing_next s.next s _ old.queue new.queue g _ refl (λ o. not_both owed o.receivers) (λ e. e) (λ e. e) (λ may. may_step old.queue new.queue hears may) hears.state (λ up. up) S.next)
+  looked Receiver owed (goes_round found signs some at stands) =
+      put_signed (AsReceiver (FindsWord (word_at s.receivers) found)) signs (record s { receivers = past_bits n s.receivers }) stands S.pays.senders (covers_round owed S.pays.receivers)
+      (owing_next s.next s _ old.queue new.queue g _ refl (λ o. not_both owed o.receivers) (λ e. e) (λ e. e) (λ may. may_step old.queue new.queue signs may) signs.state (λ up. up) S.next)
+  looked Receiver owed (finds k found signs at stands) =
+      put_signed (AsReceiver (FindsWord (word_at s.receivers) found)) signs (record s { receivers = finding k s.receivers }) stands S.pays.senders (covers_finding k (small_found s.receivers g.receiver k S.pays.receivers at.0) S.pays.receivers)
+      (owing_next s.next s _ old.queue new.queue g _ refl (λ o. not_both owed o.receivers) (λ e. e) (λ e. e) (λ may. may_step old.queue new.queue signs may) signs.state (λ up. up) S.next)
 
   woke : {size : ℕ} (role : Role) (k : ℕ) → (looks_for role s).is_owed ≡ true → AddsNote size (as_role role (WakesEnd k)) old.queue new.queue → new.standing ≡ with_looks role (done_at n k (looks_for role s)) s → IsStepSeatOf c new
   woke Sender k owed signs stands =
@@ -150,14 +152,16 @@ module _ {T : Type 0} (c : Channel T) (old new : ChannelSeat T) (S : IsStepSeatO
       put_signed (AsReceiver (WakesEnd k)) signs (record s { receivers = done_at n k s.receivers }) stands S.pays.senders (covers_done k S.pays.receivers)
       (owing_next s.next s _ old.queue new.queue g _ refl (λ o. not_both owed o.receivers) (λ e. e) (λ e. e) (λ may. may_step old.queue new.queue signs may) signs.state (λ up. record { sender = up.sender; receiver = up.receiver }) S.next)
 
-  retried : {size : ℕ} (role : Role) → (looks_for role s).is_owed ≡ true → AddsNoNote size old.queue new.queue → new.standing ≡ with_looks role (retrying (looks_for role s)) s → IsStepSeatOf c new
-  retried Sender owed hears stands =
-      put_heard hears (record s { senders = retrying s.senders }) stands (covers_retrying S.pays.senders) S.pays.receivers (owing_next s.next s _ old.queue new.queue g _ refl (λ o. not_both owed o.senders) (λ e. e) (λ e. e) (λ may. may_step old.queue new.queue hears may) hears.state (λ up. up) S.next)
-  retried Receiver owed hears stands =
-      put_heard hears (record s { receivers = retrying s.receivers }) stands S.pays.senders (covers_retrying S.pays.receivers) (owing_next s.next s _ old.queue new.queue g _ refl (λ o. not_both owed o.receivers) (λ e. e) (λ e. e) (λ may. may_step old.queue new.queue hears may) hears.state (λ up. up) S.next)
+  retried : {size : ℕ} (role : Role) (k : ℕ) → (looks_for role s).is_owed ≡ true → AddsNote size (as_role role (FindsBit k false)) old.queue new.queue → new.standing ≡ with_looks role (retrying (looks_for role s)) s → IsStepSeatOf c new
+  retried Sender k owed signs stands =
+      put_signed (AsSender (FindsBit k false)) signs (record s { senders = retrying s.senders }) stands (covers_retrying S.pays.senders) S.pays.receivers
+      (owing_next s.next s _ old.queue new.queue g _ refl (λ o. not_both owed o.senders) (λ e. e) (λ e. e) (λ may. may_step old.queue new.queue signs may) signs.state (λ up. up) S.next)
+  retried Receiver k owed signs stands =
+      put_signed (AsReceiver (FindsBit k false)) signs (record s { receivers = retrying s.receivers }) stands S.pays.senders (covers_retrying S.pays.receivers)
+      (owing_next s.next s _ old.queue new.queue g _ refl (λ o. not_both owed o.receivers) (λ e. e) (λ e. e) (λ may. may_step old.queue new.queue signs may) signs.state (λ up. up) S.next)
 
   cleared : (size : ℕ) (role : Role) (k : ℕ) (r : ChannelStep T) → (looks_for role s).is_owed ≡ true → ClearsBit n size role (looks_for role s) old new k r → IsStepSeatOf c new
-  cleared size role k GoesOn owed m = retried role owed m.0 m.1
+  cleared size role k GoesOn owed m = retried role k owed m.0 m.1
   cleared size role k NotYet owed m = absurd m
   cleared size role k Sleeps owed m = absurd m
   cleared size role k (Wakes number) owed m = woke role k owed m.1 m.2
@@ -366,9 +370,13 @@ module _ {T : Type 0} (c : Channel T) (old new : ChannelSeat T) (S : IsStepSeatO
         put_signed (AsReceiver Registers) m.signs (with_next (Testing Receive) s) m.stands S.pays.senders (covers_same (after_note n (AsReceiver Registers) g).receiver refl refl S.pays.receivers)
         (record { stands = record { queue = may_step old.queue new.queue m.signs may; none = none_still (Testing Receive) none; checks = free; stages = record { sender = up.sender; receiver = refl } }; tries = kind })
 
-    still_set : (w : Wish T) → s.tries ≡ false → MayClaim old.queue → ChecksIf s g → StageFor w Asleep g → s.next ≡ Sleeping w → FindsBitSet c old new → IsStepSeatOf c new
-    still_set w kind may free stage is m =
-        put_heard m.hears s m.stands S.pays.senders S.pays.receivers (subst (λ (x : Next T). StandsSo x s new.queue g) (sym is) (record { stands = record { queue = may_step old.queue new.queue m.hears may; none = none; checks = free; stages = stage }; tries = kind }))
+    still_set : (w : Wish T) → s.tries ≡ false → MayClaim old.queue → ChecksIf s g → StageFor w Asleep g → s.next ≡ Sleeping w → FindsBitSet c old new w → IsStepSeatOf c new
+    still_set (Send x) kind may free stage is m =
+        put_signed (AsSender (FindsBit old.queue.seat.name true)) m.signs s m.stands S.pays.senders S.pays.receivers
+        (subst (λ (y : Next T). StandsSo y s new.queue g) (sym is) (record { stands = record { queue = may_step old.queue new.queue m.signs may; none = none; checks = free; stages = stage }; tries = kind }))
+    still_set Receive kind may free stage is m =
+        put_signed (AsReceiver (FindsBit old.queue.seat.name true)) m.signs s m.stands S.pays.senders S.pays.receivers
+        (subst (λ (y : Next T). StandsSo y s new.queue g) (sym is) (record { stands = record { queue = may_step old.queue new.queue m.signs may; none = none; checks = free; stages = stage }; tries = kind }))
 
     -- a check after a claim that found no item
     checked_empty : MayClaim old.queue → IsAwake g → ChecksEmpty c old new → IsStepSeatOf c new

@@ -1,6 +1,8 @@
 -- An end that waits owes nothing.
-use Rattle.std.proofs.Common.{◌≡◌, ◌⊎◌, ℕ, ◌<◌, ◌≤◌, Bool, true, false, refl, ap, sym, ◌∙◌, subst, inl, inr, arith, Option}
+use Rattle.std.proofs.Common.{◌≡◌, ◌⊎◌, ℕ, ◌<◌, ◌≤◌, Bool, true, false, refl, ap, sym, ◌∙◌, subst, inl, inr, arith, Option, None, Some, List, ◌∷◌}
 use Rattle.atomic_table.specs.Table.{State}
+use Rattle.fak_model.specs.declared.note.Note.{Note}
+use Rattle.fak_model.specs.declared.note.Sign.TheVariants.{FindsBit}
 use Rattle.fak_channel_core.specs.SleeperSides.{SleepStage, Awake, Asleep, Duty}
 use Rattle.fak_channel_core.specs.SleeperMoves.{Account}
 use Rattle.fak_queue.specs.declared.limits.QueueLimits.{QueueLimits}
@@ -9,17 +11,19 @@ use Rattle.fak_queue.specs.declared.role.Role.TheVariants.{Sender, Receiver}
 use Rattle.fak_queue.specs.SeatsSeen.{IsSeenIn, SeatSleeps, SeatRests, AllRest}
 use Rattle.fak_queue.specs.Shown.{QueueView}
 use Rattle.fak_queue.specs.SleeperRest.{OwesNothing}
-use Rattle.fak_queue.specs.SleeperSeats.{SleeperInfo, account_of_seat}
-use Rattle.fak_queue.specs.Sleepers.{duty_as, is_set}
+use Rattle.fak_queue.specs.SleeperSeats.{SleeperInfo, account_of_seat, note_of}
+use Rattle.fak_queue.specs.Sleepers.{as_role, duty_as, is_set}
 use Rattle.fak_channel.specs.declared.channel.Channel.{Channel}
 use Rattle.fak_channel.specs.declared.seat.ChannelSeat.{ChannelSeat}
 use Rattle.fak_channel.specs.declared.standing.CallStanding.{CallStanding}
 use Rattle.fak_channel.specs.declared.standing.ChannelState.TheVariants as state
+use Rattle.fak_channel.specs.declared.standing.ChannelStep.TheVariants.{Sleeps}
 use Rattle.fak_channel.specs.declared.standing.Next.{Next}
 use Rattle.fak_channel.specs.declared.standing.Next.TheVariants.{Idle, Claiming, Inserting, Deleting, Checking, Registering, Testing, TestingDrained, TakingBack, Sleeping, Refusing, Refused, Shutting, Ending}
 use Rattle.fak_channel.specs.declared.standing.Wish.{Wish}
 use Rattle.fak_channel.specs.declared.standing.Wish.TheVariants.{Send, Receive}
 use Rattle.fak_channel.specs.EndsAtRest.{RestsAs, EndSleeps, EndRests, AllEndsRest}
+use Rattle.fak_channel.specs.Moves.{Debt, Look, Check, None_owed, LooksOnce, MovesNext, MovesBy, Moves, first_debt, looks_for}
 use Rattle.fak_channel.specs.Standings.{IsStepSeatOf, IsBetweenCalls, StandsSo, StageFor, OwesNone, ChecksIf, role_of, call_state}
 use Rattle.fak_channel.proofs.Following.{open_call, asleep_call}
 
@@ -91,3 +95,18 @@ module _ {T : Type 0} (c : Channel T) (key : QueueLimits) (s : State (Option T) 
   sender_sleeps_as e S sleeps x is =
       let r : RestsAs (Send x) Asleep e = asleep_rests c e S (Send x) (sleeps.next ∙ ap Sleeping is) in
       (r.stages.sender, subst (λ (w : Wish T). is_set (role_of w) key.size s.words e.queue.seat.name ≡ true) is sleeps.bit)
+
+-- a step on which a call sleeps on is none of what its end owes
+module _ {T : Type 0} (c : Channel T) (old new : ChannelSeat T) where
+  no_look : (size : ℕ) (role : Role) (found : Option ℕ) → LooksOnce c.ends size role (looks_for role old.standing) old new found Sleeps → ⊥
+  no_look size role None m = m
+  no_look size role (Some k) m = m
+
+  by_next : (d : Debt) → MovesBy c old new d Sleeps → MovesNext c old new old.standing.next Sleeps
+  by_next (Look role) m = absurd (no_look c.queue.size role (looks_for role old.standing).found m)
+  by_next Check m = absurd m
+  by_next None_owed m = m
+
+  pub found_set : (w : Wish T) → old.standing.next ≡ Sleeping w → Moves c old new Sleeps
+      → new.queue.notes ≡ note_of (as_role (role_of w) (FindsBit old.queue.seat.name true)) old.queue ∷ old.queue.notes
+  found_set w is m = (subst (λ (x : Next T). MovesNext c old new x Sleeps) is (by_next (first_debt old.standing) m)).signs.notes_are

@@ -1,7 +1,7 @@
 -- What callers see of a channel and of its seats, and what whole calls do to them. Histories have the oldest mark first.
-use Rattle.std.specs.Prelude.{◌≡◌, ◌⊎◌, ℕ, ◌+◌, Bool, true, false, List, [], ◌∷◌, ◌++◌, Some, pos, ◌≤ℤ◌, ◌<ℤ◌}
+use Rattle.std.specs.Prelude.{◌≡◌, ◌⊎◌, ℕ, ◌+◌, Bool, true, false, List, [], ◌∷◌, ◌++◌, replicate, Some, pos, ◌≤ℤ◌, ◌<ℤ◌}
 use Rattle.fak_model.specs.declared.note.Note.{Note}
-use Rattle.fak_model.specs.declared.note.Sign.TheVariants.{FallsAsleep, TakesBack}
+use Rattle.fak_model.specs.declared.note.Sign.TheVariants.{FallsAsleep, TakesBack, FindsBit}
 use Rattle.fak_model.specs.declared.queue.Kind.TheVariants.{Close}
 use Rattle.fak_model.specs.declared.queue.Mark.{Mark}
 use Rattle.fak_model.specs.Queue.{Has, IsQueueHistory, item_at, items_put, lower_count, upper_count}
@@ -33,15 +33,21 @@ IsSpent s = drawn_by s.queue.seat ≡ s.queue.seat.stint
 abbrev pub NotesMore : {T : Type 0} → SleeperInfo T → SleeperInfo T → Type 0
 NotesMore old now = (more : List Note) × (now.notes ≡ more ++ old.notes)
 
--- since then it has set its bit in this role and fallen asleep, and this is the last that it has noted
+-- it fell asleep in this role, and has found its bit still set at each of this many loads since
+abbrev pub slept : {T : Type 0} → Role → ℕ → SleeperInfo T → List Note → List Note
+slept role loads now before = replicate loads (note_of (as_role role (FindsBit now.seat.name true)) now) ++ (note_of (as_role role FallsAsleep) now ∷ before)
+
+-- since then it has set its bit in this role and fallen asleep, and has seen no wake
 pub record HasFallenAsleep {T : Type 0} (role : Role) (old now : SleeperInfo T) : Type 0 where
   pub more : List Note
-  pub notes : now.notes ≡ note_of (as_role role FallsAsleep) now ∷ (more ++ old.notes)
+  pub loads : ℕ
+  pub notes : now.notes ≡ slept role loads now (more ++ old.notes)
 
 -- and then it has found its bit still set, and has cleared it itself
 pub record HasTakenBack {T : Type 0} (role : Role) (old now : SleeperInfo T) : Type 0 where
   pub more : List Note
-  pub notes : now.notes ≡ note_of (as_role role TakesBack) now ∷ (note_of (as_role role FallsAsleep) now ∷ (more ++ old.notes))
+  pub loads : ℕ
+  pub notes : now.notes ≡ note_of (as_role role TakesBack) now ∷ slept role loads now (more ++ old.notes)
 
 -- ---- sending
 

@@ -1,7 +1,7 @@
 -- Looks for sleepers: which words of bits are still to be loaded, and how a look covers what an end owes.
 use Rattle.std.specs.Prelude.{◌≡◌, ◌⊎◌, ℕ, ◌+◌, ◌*◌, ◌-◌, ◌/◌, ◌%◌, ◌<◌, ◌≤◌, Bool, true, false, if◌then◌else◌, nat_lt, Option, Some, None, IfSome}
 use Rattle.fak_model.specs.Limits.{large_seats}
-use Rattle.fak_channel_core.specs.SleeperSides.{Duty}
+use Rattle.fak_channel_core.specs.SleeperSides.{Duty, has_bit}
 use Rattle.fak_channel.specs.declared.standing.Looks.{Looks}
 
 -- the words of the bits of this many ends
@@ -57,8 +57,8 @@ pub record Covers (ends : ℕ) (l : Looks) (g : Duty) : Type 0 where
   pub found : IfSome l.found (λ k. k < large_seats)
   pub passed : l.is_owed ≡ true → (v : ℕ) → v < words_of ends → (IsToPass (words_of ends) l v → ⊥) → g.passed v ≡ true
 
--- an end of the word that the look has loaded, from the one on from which it goes; or there is none, and it began within the
--- word
-abbrev pub IsFoundAt : Looks → Option ℕ → Type 0
-IsFoundAt l None = 0 < l.from % 64
-IsFoundAt l (Some k) = (k / 64 ≡ word_at l) × (l.from ≤ k)
+-- an end whose bit is set in the word that the look has loaded, from the one on from which it goes; or there is none, and it
+-- began within the word
+abbrev pub IsFoundAt : ℕ → Looks → Option ℕ → Type 0
+IsFoundAt word l None = (0 < l.from % 64) × ((j : ℕ) → l.from % 64 ≤ j → has_bit word j ≡ false)
+IsFoundAt word l (Some k) = (k / 64 ≡ word_at l) × (l.from ≤ k) × (has_bit word (k % 64) ≡ true)

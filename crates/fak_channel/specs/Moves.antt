@@ -2,7 +2,7 @@
 use Rattle.std.specs.Prelude.{◌≡◌, ◌≢◌, ◌⊎◌, ◌↔◌, ℕ, ◌<◌, ◌≤◌, ◌/◌, ◌%◌, ℤ, pos, ◌≤ℤ◌, ◌<ℤ◌, Bool, true, false, if◌then◌else◌, List, Option, Some, None, IsTrue}
 use Rattle.fak_model.specs.declared.note.NoteKind.{NoteKind}
 use Rattle.fak_model.specs.declared.note.NoteKind.TheVariants.{AsSender, AsReceiver, Checks}
-use Rattle.fak_model.specs.declared.note.Sign.TheVariants.{Registers, FindsNoItem, FallsAsleep, IsWoken, TakesBack, PassesWord, WakesEnd}
+use Rattle.fak_model.specs.declared.note.Sign.TheVariants.{Registers, FindsNoItem, FallsAsleep, IsWoken, TakesBack, FindsBit, PassesWord, FindsWord, WakesEnd}
 use Rattle.fak_model.specs.declared.queue.Kind.TheVariants.{Close}
 use Rattle.fak_model.specs.declared.queue.Mark.{Mark}
 use Rattle.fak_model.specs.Calls.{SeatInfo}
@@ -30,7 +30,7 @@ use Rattle.fak_channel.specs.declared.standing.Outcome.{Outcome}
 use Rattle.fak_channel.specs.declared.standing.Outcome.TheVariants as outcome
 use Rattle.fak_channel.specs.declared.standing.Wish.{Wish}
 use Rattle.fak_channel.specs.declared.standing.Wish.TheVariants.{Send, Receive}
-use Rattle.fak_channel.specs.Looks.{word_at, owing, past_word, past_bits, finding, retrying, done_at}
+use Rattle.fak_channel.specs.Looks.{IsFoundAt, word_at, owing, past_word, past_bits, finding, retrying, done_at}
 use Rattle.fak_channel.specs.Standings.{role_of, ticket_in}
 
 -- ---- what an end does first
@@ -101,18 +101,20 @@ pub record WasRefused {T : Type 0} (size : ℕ) (old new : SleeperInfo T) : Type
 -- ---- looks
 
 module _ {T : Type 0} (ends size : ℕ) (role : Role) (l : Looks) (old new : ChannelSeat T) where
-  -- a load of a word of bits: none is set; or only bits of ends before that from which on it looks; or that of end k, which
-  -- is to be cleared next
+  -- a load of a word of bits: none is set; or some are, all of ends before that from which on it looks; or the one of end k is,
+  -- which is to be cleared next
   pub data LoadsWord : Type 0 where
     passes : AddsNote size (as_role role (PassesWord (word_at l))) old.queue new.queue → new.standing ≡ with_looks role (past_word ends l) old.standing → LoadsWord
-    goes_round : AddsNoNote size old.queue new.queue → 0 < l.from % 64 → new.standing ≡ with_looks role (past_bits ends l) old.standing → LoadsWord
-    finds : (k : ℕ) → AddsNoNote size old.queue new.queue → k / 64 ≡ word_at l → l.from ≤ k → new.standing ≡ with_looks role (finding k l) old.standing → LoadsWord
+    goes_round : (found : ℕ) → AddsNote size (as_role role (FindsWord (word_at l) found)) old.queue new.queue → found ≢ 0 → IsFoundAt found l None
+        → new.standing ≡ with_looks role (past_bits ends l) old.standing → LoadsWord
+    finds : (k found : ℕ) → AddsNote size (as_role role (FindsWord (word_at l) found)) old.queue new.queue → IsFoundAt found l (Some k)
+        → new.standing ≡ with_looks role (finding k l) old.standing → LoadsWord
 
-  -- the deletion of the bit of end k: it was set, and this wakes that end; or another end was faster, and the look is tried
-  -- again
+  -- the deletion of the bit of end k: it was set, and this wakes that end; or it was clear, since another end was faster, and
+  -- the look is tried again
   abbrev pub ClearsBit : ℕ → ChannelStep T → Type 0
   ClearsBit k (Wakes number) = (number ≡ k) × AddsNote size (as_role role (WakesEnd k)) old.queue new.queue × (new.standing ≡ with_looks role (done_at ends k l) old.standing)
-  ClearsBit k GoesOn = AddsNoNote size old.queue new.queue × (new.standing ≡ with_looks role (retrying l) old.standing)
+  ClearsBit k GoesOn = AddsNote size (as_role role (FindsBit k false)) old.queue new.queue × (new.standing ≡ with_looks role (retrying l) old.standing)
   ClearsBit k _ = ⊥
 
   abbrev pub GoesOnBy : Type 0 → ChannelStep T → Type 0
@@ -216,9 +218,9 @@ module _ {T : Type 0} (c : Channel T) (old new : ChannelSeat T) where
   GivesUpSleep w None = FindsWake w
   GivesUpSleep w (Some v) = (v ≡ w) × TakesOwn w
 
-  -- the own bit is set
-  pub record FindsBitSet : Type 0 where
-    pub hears : AddsNoNote size old.queue new.queue
+  -- a load finds the own bit still set: nobody has woken this end
+  pub record FindsBitSet (w : Wish T) : Type 0 where
+    pub signs : AddsNote size (as_role (role_of w) (FindsBit old.queue.seat.name true)) old.queue new.queue
     pub stands : Stands old.standing
 
   -- nothing but the standing changes
@@ -252,7 +254,7 @@ module _ {T : Type 0} (c : Channel T) (old new : ChannelSeat T) where
   MovesNext TestingDrained GoesOn = TestsDrained
   MovesNext (TakingBack w) GoesOn = ClearsOwn w
   MovesNext (Sleeping w) GoesOn = FindsWake w
-  MovesNext (Sleeping w) Sleeps = FindsBitSet
+  MovesNext (Sleeping w) Sleeps = FindsBitSet w
   MovesNext (Refusing w) Sleeps = OnlyStands (with_next (Refused w) old.standing)
   MovesNext (Refused w) GoesOn = OnlyStands (with_next (Claiming w) old.standing)
   MovesNext Shutting GoesOn = ShutsQueue

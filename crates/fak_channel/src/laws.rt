@@ -1,18 +1,23 @@
 //! What callers can conclude from the standing of an end.
 
-ghost use Rattle.std.specs.Prelude.{◌≡◌, ℕ, ◌<◌, false, List, [], Option, length, reverse};
+ghost use Rattle.std.specs.Prelude.{◌≡◌, ℕ, ◌<◌, ◌∷◌, true, false, List, [], Option, length, reverse};
 ghost use Rattle.atomic_table.specs.Table.{State};
+ghost use Rattle.fak_model.specs.declared.note.Sign.TheVariants.{FindsBit};
 ghost use Rattle.fak_model.specs.Queue.{contents};
 ghost use Rattle.fak_channel_core.specs.SleeperSides.{Asleep, Awake};
 ghost use Rattle.fak_queue.specs.declared.limits.QueueLimits.{QueueLimits};
 ghost use Rattle.fak_queue.specs.Shown.{IsShownQueue, QueueView};
+ghost use Rattle.fak_queue.specs.Sleepers.{as_role};
+ghost use Rattle.fak_queue.specs.SleeperSeats.{note_of};
 ghost use Rattle.fak_channel.specs.declared.channel.Channel.{Channel};
 ghost use Rattle.fak_channel.specs.declared.seat.ChannelSeat.{ChannelSeat};
+ghost use Rattle.fak_channel.specs.declared.standing.ChannelStep.TheVariants.{Sleeps};
 ghost use Rattle.fak_channel.specs.declared.standing.Next.TheVariants.{Sleeping};
 ghost use Rattle.fak_channel.specs.declared.standing.Wish.{Wish};
 ghost use Rattle.fak_channel.specs.declared.standing.Wish.TheVariants.{Receive, Send};
 ghost use Rattle.fak_channel.specs.EndsAtRest.{AllEndsRest, EndSleeps, RestsAs};
-ghost use Rattle.fak_channel.specs.Standings.{IsBetweenCalls, IsStepSeatOf};
+ghost use Rattle.fak_channel.specs.Moves.{Moves};
+ghost use Rattle.fak_channel.specs.Standings.{IsBetweenCalls, IsStepSeatOf, role_of};
 
 use fak_queue::laws::sleepers::no_seat_sleeps_beside_work;
 
@@ -23,6 +28,13 @@ pub fn an_end_that_waits_owes_nothing<T>()
         → RestsAs w Awake e }
     ensures asleep { (c : Channel T) (e : ChannelSeat T) (w : Wish T) → IsStepSeatOf c e → e.standing.next ≡ Sleeping w
         → RestsAs w Asleep e }
+{}
+
+/// A call sleeps on only after a look at its own bit, at that step: the seat notes that the bit is still set. By
+/// `a_note_of_a_bit_is_true` no seat can note so whose bit another end has cleared.
+pub fn an_end_that_sleeps_on_finds_its_bit_set<T>()
+    ensures { (c : Channel T) (w : Wish T) (old new : ChannelSeat T) → old.standing.next ≡ Sleeping w → Moves c old new Sleeps
+        → new.queue.notes ≡ note_of (as_role (role_of w) (FindsBit old.queue.seat.name true)) old.queue ∷ old.queue.notes }
 {}
 
 /// No wake-up is lost in a running channel. Between any two steps: if only sleepers have open calls, a receiver sleeps only if

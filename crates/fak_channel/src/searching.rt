@@ -80,7 +80,7 @@ impl Looks {
     pub(crate) fn first_in(self, word: u64) -> Option<u64>
         requires some { word ≢ 0 }
         requires from { self.from < 2 ^ 63 }
-        ensures { IsFoundAt self result }
+        ensures { IsFoundAt word self result }
     {
         let bit = self.from % 64;
         let step = (word >> bit).trailing_zeros() as u64;

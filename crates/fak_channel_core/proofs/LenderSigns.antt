@@ -2,7 +2,7 @@
 use Rattle.std.specs.Prelude.{◌≡◌, ◌≢◌, ℕ, ◌+◌, ◌<◌, ◌≤◌, Bool, true, false, not, ◌&&◌}
 use Rattle.fak_model.proofs.Leading.{sum_same}
 use Rattle.fak_model.specs.declared.note.Sign.{Sign}
-use Rattle.fak_model.specs.declared.note.Sign.TheVariants.{Registers, FindsNoItem, FallsAsleep, IsWoken, TakesBack, GivesUp, PassesWord, WakesEnd}
+use Rattle.fak_model.specs.declared.note.Sign.TheVariants.{Registers, FindsNoItem, FallsAsleep, IsWoken, TakesBack, FindsBit, GivesUp, PassesWord, FindsWord, WakesEnd}
 use Rattle.fak_core.specs.QueueMoves.{with_at}
 use Rattle.fak_core.proofs.Common.{arith, refl, sym, ap, ◌∙◌, subst, inl, inr, same_or_not}
 use Rattle.fak_core.proofs.QueueTurns.{at_here, at_else}
@@ -34,7 +34,9 @@ module _ (n : ℕ) (s : LenderState) (e : ℕ) where
   right IsWoken may = right_if (caller_side s) e IsWoken may
   right TakesBack may = right_if (caller_side s) e TakesBack may
   right GivesUp may = right_if (caller_side s) e GivesUp may
+  right (FindsBit k b) may = tt
   right (PassesWord w) may = right_if (caller_side s) e (PassesWord w) may
+  right (FindsWord w found) may = tt
   right (WakesEnd k) may = right_if (caller_side s) e (WakesEnd k) may
 
   -- a caller whose bit is set after its sign, and whose second test has passed a word, had it set before
@@ -49,7 +51,9 @@ module _ (n : ℕ) (s : LenderState) (e : ℕ) where
   own_set FallsAsleep w lt set = (set, lt)
   own_set IsWoken w lt set = (set, lt)
   own_set GivesUp w lt set = (set, lt)
+  own_set (FindsBit k b) w lt set = (set, lt)
   own_set (PassesWord u) w lt set = (set, lt)
+  own_set (FindsWord u found) w lt set = (set, lt)
 
   own_tested : (m : ℕ) (v : Sign) → sign_may n s e v ≡ true → (is_asleep now.duty.stage ≡ true → has_all_ends n now.tested ≡ true) → is_asleep (after_sign m v now.duty).stage ≡ true → has_all_ends n (tested_after v now.tested) ≡ true
   own_tested m FallsAsleep may old a = (falls may).1
@@ -58,7 +62,9 @@ module _ (n : ℕ) (s : LenderState) (e : ℕ) where
   own_tested m IsWoken may old a = absurd (not_both false a refl)
   own_tested m TakesBack may old a = absurd (not_both false a refl)
   own_tested m GivesUp may old a = absurd (not_both false a refl)
+  own_tested m (FindsBit k b) may old a = old a
   own_tested m (PassesWord w) may old a = old a
+  own_tested m (FindsWord w found) may old a = old a
   own_tested m (WakesEnd k) may old a = old a
 
   no_news : (v : Sign) → sign_may n s e v ≡ true → Falls v → (S : ℕ) → CoversNews s.closed S

@@ -8,7 +8,7 @@ use Rattle.fak_core.proofs.Common.{arith, ints, common_steps, refl, sym, ap, ◌
 use Rattle.fak_core.proofs.QueueKept.{IsKept}
 use Rattle.fak_core.proofs.QueueTurns.{at_here, at_else}
 use Rattle.fak_model.specs.declared.note.Sign.{Sign}
-use Rattle.fak_model.specs.declared.note.Sign.TheVariants.{Registers, FindsNoItem, FallsAsleep, IsWoken, TakesBack, GivesUp, PassesWord, WakesEnd}
+use Rattle.fak_model.specs.declared.note.Sign.TheVariants.{Registers, FindsNoItem, FallsAsleep, IsWoken, TakesBack, FindsBit, GivesUp, PassesWord, FindsWord, WakesEnd}
 use Rattle.fak_channel_core.specs.SleeperSides.{SleepStage, Duty, Side, bits_after, relies_on_bit, is_registered, is_past_lower, may_sign}
 use Rattle.fak_model.specs.declared.note.NoteKind.TheVariants.{AsSender, AsReceiver}
 use Rattle.fak_channel_core.specs.SleeperMoves.{Account, Deed, after_deed, SleeperState, with_deed, is_void, sender_side, receiver_side, sender_may, receiver_may, is_idle, sender_signs, receiver_signs, Notes}
@@ -146,7 +146,9 @@ right_if d e FallsAsleep may = absurd (not_both false may refl)
 right_if d e IsWoken may = (let b = both_true (relies_on_bit (d.duty e).stage) (not (d.bit e)) may in (b.0, not_true (d.bit e) b.1))
 right_if d e TakesBack may = both_true (relies_on_bit (d.duty e).stage) (d.bit e) may
 right_if d e GivesUp may = may
+right_if d e (FindsBit k b) may = tt
 right_if d e (PassesWord w) may = may
+right_if d e (FindsWord w found) may = tt
 right_if d e (WakesEnd k) may = may
 
 right_sender : {A : Type 0} (size : ℕ) (q : QueueState A) (d : Side) (e : ℕ) (v : Sign) → sender_may size q d e v ≡ true → Right (d.duty e) d.bit e v
@@ -156,7 +158,9 @@ right_sender size q d e FindsNoItem may = right_if d e FindsNoItem may
 right_sender size q d e IsWoken may = right_if d e IsWoken may
 right_sender size q d e TakesBack may = right_if d e TakesBack may
 right_sender size q d e GivesUp may = right_if d e GivesUp may
+right_sender size q d e (FindsBit k b) may = tt
 right_sender size q d e (PassesWord w) may = right_if d e (PassesWord w) may
+right_sender size q d e (FindsWord w found) may = tt
 right_sender size q d e (WakesEnd k) may = right_if d e (WakesEnd k) may
 
 right_receiver : {A : Type 0} (q : QueueState A) (d : Side) (e : ℕ) (v : Sign) → receiver_may q d e v ≡ true → Right (d.duty e) d.bit e v
@@ -166,7 +170,9 @@ right_receiver q d e Registers may = right_if d e Registers may
 right_receiver q d e IsWoken may = right_if d e IsWoken may
 right_receiver q d e TakesBack may = right_if d e TakesBack may
 right_receiver q d e GivesUp may = right_if d e GivesUp may
+right_receiver q d e (FindsBit k b) may = tt
 right_receiver q d e (PassesWord w) may = right_if d e (PassesWord w) may
+right_receiver q d e (FindsWord w found) may = tt
 right_receiver q d e (WakesEnd k) may = right_if d e (WakesEnd k) may
 
 -- what the second tests have found

@@ -9,13 +9,13 @@ use Rattle.fak_core.proofs.QueueReached.{true_or_false}
 use Rattle.fak_core.proofs.QueueSteps.{by_test}
 use Rattle.fak_core.proofs.QueueTurns.{at_here}
 use Rattle.fak_model.specs.declared.note.Sign.{Sign}
-use Rattle.fak_model.specs.declared.note.Sign.TheVariants.{IsWoken, FindsNoItem, FallsAsleep}
-use Rattle.fak_channel_core.specs.SleeperSides.{SleepStage, Asleep, Woken, Duty, owes_look, less, after_sign, bits_after, relies_on_bit, may_sign}
+use Rattle.fak_model.specs.declared.note.Sign.TheVariants.{IsWoken, FindsNoItem, FallsAsleep, FindsBit, FindsWord}
+use Rattle.fak_channel_core.specs.SleeperSides.{SleepStage, Asleep, Woken, Duty, owes_look, less, after_sign, bits_after, relies_on_bit, may_sign, is_as, shows_bits}
 use Rattle.fak_model.specs.declared.note.NoteKind.TheVariants.{AsSender, AsReceiver, Checks}
 use Rattle.fak_channel_core.specs.SleeperMoves.{Account, after_deed, SleeperState, sender_side, receiver_side, with_deed, is_void, sender_may, receiver_may, is_idle, sender_signs, receiver_signs, Notes}
 use Rattle.fak_channel_core.specs.SleeperSchedule.{SleeperEvent, SenderSigns, ReceiverSigns, ChecksUpper, end_of, sleeper_event, sleeper_happens, IsResting}
 use Rattle.fak_channel_core.specs.SleeperProgress.{stage_left, duty_left, account_left, steps_to_rest, ComesOn}
-use Rattle.fak_channel_core.proofs.SleeperTests.{not_both, make_both, if_so, lt_true}
+use Rattle.fak_channel_core.proofs.SleeperTests.{both_true, not_both, make_both, if_so, lt_true}
 use Rattle.fak_channel_core.proofs.SleeperDuties.{looks_most, looks_some, rests_or_helps, duty_rests, no_looks, stage_done}
 use Rattle.fak_channel_core.proofs.SleeperKept.{SleeperKept}
 
@@ -140,3 +140,28 @@ module _ {A : Type 0} (n size e : ℕ) (s : SleeperState A) (l : e < n) (idle : 
       (if_so (nat_lt e n) (sleeper_event n size s (ReceiverSigns e IsWoken)) s (lt_true e n l)
       ∙ if_so (is_idle (s.queue.phase e) && receiver_may s.queue (receiver_side s) e IsWoken) (receiver_signs n s e IsWoken) s may)
       ∙ ap (λ h. h.receiver.stage) (at_here s.accounts e (after_deed {A = A} n (Notes (AsReceiver IsWoken)) (s.accounts e)))
+
+-- ---- a note that is not true
+
+as_found : (b c : Bool) → is_as b c ≡ true → c ≡ b
+as_found b c e = grind (arith, common_steps)
+
+module _ {A : Type 0} (n size e : ℕ) (s : SleeperState A) where
+  -- an event that may not come changes nothing
+  no_event : (may : Bool) (t : SleeperState A) → (may ≡ true → ⊥) → cond (nat_lt e n) (cond (is_idle (s.queue.phase e) && may) t s) s ≡ s
+  no_event may t other =
+      let is : SleeperState A → Type 0 = λ u. u ≡ s in
+      by_test is (nat_lt e n) (cond (is_idle (s.queue.phase e) && may) t s) s
+      (λ _. by_test is (is_idle (s.queue.phase e) && may) t s (λ both. absurd (other (both_true (is_idle (s.queue.phase e)) may both).1)) (λ _. refl)) (λ _. refl)
+
+  pub sender_bit : (k : ℕ) (b : Bool) → s.senders k ≢ b → sleeper_happens n size s (SenderSigns e (FindsBit k b)) ≡ s
+  sender_bit k b other = no_event (is_as b (s.senders k)) (sender_signs n s e (FindsBit k b)) (λ may. other (as_found b (s.senders k) may))
+
+  pub receiver_bit : (k : ℕ) (b : Bool) → s.receivers k ≢ b → sleeper_happens n size s (ReceiverSigns e (FindsBit k b)) ≡ s
+  receiver_bit k b other = no_event (is_as b (s.receivers k)) (receiver_signs n s e (FindsBit k b)) (λ may. other (as_found b (s.receivers k) may))
+
+  pub sender_word : (w found : ℕ) → shows_bits s.senders w found ≡ false → sleeper_happens n size s (SenderSigns e (FindsWord w found)) ≡ s
+  sender_word w found other = no_event (shows_bits s.senders w found) (sender_signs n s e (FindsWord w found)) (λ may. not_both (shows_bits s.senders w found) may other)
+
+  pub receiver_word : (w found : ℕ) → shows_bits s.receivers w found ≡ false → sleeper_happens n size s (ReceiverSigns e (FindsWord w found)) ≡ s
+  receiver_word w found other = no_event (shows_bits s.receivers w found) (receiver_signs n s e (FindsWord w found)) (λ may. not_both (shows_bits s.receivers w found) may other)

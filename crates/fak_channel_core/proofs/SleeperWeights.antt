@@ -10,7 +10,7 @@ use Rattle.fak_core.proofs.QueueTurns.{at_here, at_else, le_or_lt}
 use Rattle.fak_core.proofs.QueueReached.{true_or_false}
 use Rattle.fak_channel_core.proofs.SleeperTests.{not_both, both_true, one_false, not_true}
 use Rattle.fak_model.specs.declared.note.Sign.{Sign}
-use Rattle.fak_model.specs.declared.note.Sign.TheVariants.{Registers, FindsNoItem, FallsAsleep, IsWoken, TakesBack, GivesUp, PassesWord, WakesEnd}
+use Rattle.fak_model.specs.declared.note.Sign.TheVariants.{Registers, FindsNoItem, FallsAsleep, IsWoken, TakesBack, FindsBit, GivesUp, PassesWord, FindsWord, WakesEnd}
 use Rattle.fak_channel_core.specs.SleeperSides.{SleepStage, Awake, Registered, PastLower, Asleep, Woken, Duty, owes_look, all_below, has_passed, passes_word, less, after_sign, bits_after, is_awake, relies_on_bit, is_woken, is_clear}
 
 -- ---- weights, for the sleeper with name b
@@ -61,6 +61,8 @@ Right g bit e IsWoken = (relies_on_bit g.stage ≡ true) × (bit e ≡ false)
 Right g bit e TakesBack = (relies_on_bit g.stage ≡ true) × (bit e ≡ true)
 Right g bit e GivesUp = is_woken g.stage ≡ true
 Right g bit e (PassesWord w) = is_clear bit w ≡ true
+Right g bit e (FindsBit k b) = Unit {0}
+Right g bit e (FindsWord w found) = Unit {0}
 Right g bit e (WakesEnd k) = bit k ≡ true
 
 -- ---- what is true of a side of n ends
@@ -187,7 +189,9 @@ module _ (n : ℕ) (duty duty' : ℕ → Duty) (bit : ℕ → Bool) (e : ℕ) (l
   own_bit IsWoken r set = absurd (not_both (bit e) set r.1)
   own_bit TakesBack r set = absurd (not_both (with_at bit e false e) set (at_here bit e false))
   own_bit GivesUp r set = absurd (not_woken (duty e).stage r (K.owner e set))
+  own_bit (FindsBit k b) r set = K.owner e set
   own_bit (PassesWord w) r set = K.owner e set
+  own_bit (FindsWord w found) r set = K.owner e set
   own_bit (WakesEnd j) r set = elim (same_or_not e j) [
     | inl q ↦ absurd (not_both (with_at bit j false e) set (ap (with_at bit j false) q ∙ at_here bit j false))
     | inr ne ↦ K.owner e (sym (at_else bit j e false ne) ∙ set)
@@ -200,7 +204,9 @@ module _ (n : ℕ) (duty duty' : ℕ → Duty) (bit : ℕ → Bool) (e : ℕ) (l
   own_looks IsWoken all = K.finished e all
   own_looks TakesBack all = K.finished e all
   own_looks GivesUp all = absurd (none_passed n e l all)
+  own_looks (FindsBit k b) all = K.finished e all
   own_looks (PassesWord w) all = ap (λ c. cond c 0 (duty e).looks) all
+  own_looks (FindsWord w found) all = K.finished e all
   own_looks (WakesEnd j) all = ap less (K.finished e all)
 
   pub sign_kept : (v : Sign) → duty' e ≡ after_sign n v (duty e) → Right (duty e) bit e v → SideKept n duty' (bits_after v e bit)
@@ -236,6 +242,8 @@ module _ (n : ℕ) (duty duty' : ℕ → Duty) (bit : ℕ → Bool) (e : ℕ) (l
     sign_grows GivesUp here r t set =
         let a = stirs_woken (duty e).stage (bit e) (tries e) r in let c = owed_most b (duty e) in
         own_grows bit (owes_look (record (duty e) { stage = Awake })) (bit e) (λ k ne. refl) here refl (omega arith)
+    sign_grows (FindsBit k d) here r t set = own_grows bit (duty e) (bit e) (λ k ne. refl) here refl (omega arith)
+    sign_grows (FindsWord w found) here r t set = own_grows bit (duty e) (bit e) (λ k ne. refl) here refl (omega arith)
     sign_grows (PassesWord w) here r t set =
         let a = owed_same n w b (duty e) (in_use b set) (λ q. not_both (bit b) set (clear_bit bit w b r q)) in
         own_grows bit (passes_word n w (duty e)) (bit e) (λ k ne. refl) here refl (omega arith)

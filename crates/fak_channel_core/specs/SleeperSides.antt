@@ -1,9 +1,10 @@
 -- One side of a channel whose sleepers are bits, its senders or its receivers; or the callers of a lender. An end that has to
 -- wait sets its bit and tests again before it sleeps. An end that makes room or an item looks for a set bit, and clears it:
 -- that wakes its end.
-use Rattle.std.specs.Prelude.{ℕ, suc, zero, ◌+◌, ◌*◌, ◌/◌, ◌==◌, Bool, true, false, not, ◌&&◌, ◌||◌, if◌then◌else◌}
+use Rattle.std.specs.Prelude.{ℕ, suc, zero, ◌+◌, ◌*◌, ◌/◌, ◌==◌, nat_eq, Bool, true, false, not, ◌&&◌, ◌||◌, if◌then◌else◌}
+use Rattle.std.specs.Int.{bit_at}
 use Rattle.fak_model.specs.declared.note.Sign.{Sign}
-use Rattle.fak_model.specs.declared.note.Sign.TheVariants.{Registers, FindsNoItem, FallsAsleep, IsWoken, TakesBack, GivesUp, PassesWord, WakesEnd}
+use Rattle.fak_model.specs.declared.note.Sign.TheVariants.{Registers, FindsNoItem, FallsAsleep, IsWoken, TakesBack, FindsBit, GivesUp, PassesWord, FindsWord, WakesEnd}
 use Rattle.fak_core.specs.QueueMoves.{with_at}
 
 -- how far an end has got on its way to sleep
@@ -69,8 +70,10 @@ after_sign n FindsNoItem g = record g { stage = PastLower }
 after_sign n FallsAsleep g = record g { stage = Asleep }
 after_sign n IsWoken g = record g { stage = Woken }
 after_sign n TakesBack g = record g { stage = Awake }
+after_sign n (FindsBit k b) g = g
 after_sign n GivesUp g = owes_look (record g { stage = Awake })
 after_sign n (PassesWord w) g = passes_word n w g
+after_sign n (FindsWord w found) g = g
 after_sign n (WakesEnd k) g = record g { looks = less g.looks }
 
 -- the bits after a sign of end e
@@ -109,6 +112,19 @@ relies_on_bit _ = false
 abbrev pub is_clear : (ℕ → Bool) → ℕ → Bool
 is_clear bit w = all_below (λ j. not (bit (64 * w + j))) 64
 
+-- whether a bit is as it was found
+abbrev pub is_as : Bool → Bool → Bool
+is_as true b = b
+is_as false b = not b
+
+-- bit j of this number is set
+abbrev pub has_bit : ℕ → ℕ → Bool
+has_bit found j = nat_eq (bit_at found j) 1
+
+-- the bits of word w are those of this number
+abbrev pub shows_bits : (ℕ → Bool) → ℕ → ℕ → Bool
+shows_bits bit w found = all_below (λ j. is_as (has_bit found j) (bit (64 * w + j))) 64
+
 -- end e may leave this sign; the second tests of the counts depend on the side
 abbrev pub may_sign : Side → ℕ → Sign → Bool
 may_sign d e Registers = is_awake (d.duty e).stage
@@ -116,6 +132,8 @@ may_sign d e FindsNoItem = false
 may_sign d e FallsAsleep = false
 may_sign d e IsWoken = relies_on_bit (d.duty e).stage && not (d.bit e)
 may_sign d e TakesBack = relies_on_bit (d.duty e).stage && d.bit e
+may_sign d e (FindsBit k b) = is_as b (d.bit k)
 may_sign d e GivesUp = is_woken (d.duty e).stage
 may_sign d e (PassesWord w) = is_clear d.bit w
+may_sign d e (FindsWord w found) = shows_bits d.bit w found
 may_sign d e (WakesEnd k) = d.bit k

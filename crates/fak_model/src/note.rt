@@ -14,10 +14,15 @@ pub enum Sign {
     IsWoken,
     /// It clears its bit, which was set.
     TakesBack,
+    /// It loads or clears the bit of the end of this name, and finds it set or clear: an own bit that it loads is still set;
+    /// that of another end which it clears was clear before.
+    FindsBit(u64, bool),
     /// It was woken, and does not try again: so it owes a look.
     GivesUp,
     /// Its look finds no bit set in the word of this number.
     PassesWord(u64),
+    /// Its look finds this word of bits, of this number. Some of them are set.
+    FindsWord(u64, u64),
     /// Its look clears the bit of the end of this name, which was set: this wakes that end.
     WakesEnd(u64),
 }

@@ -2,12 +2,12 @@
 use Rattle.std.specs.Prelude.{◌%◌}
 use Rattle.std.specs.Int.Bits.{bit_and}
 use Rattle.fak_core.specs.declared.queue.phase.Phase.TheVariants.{Idle}
-use Rattle.fak_channel_core.specs.SleeperSides.{Awake, Registered, PastLower, Woken, relies_on_bit}
+use Rattle.fak_channel_core.specs.SleeperSides.{Awake, Registered, PastLower, Woken, relies_on_bit, has_bit}
 use Rattle.fak_queue.specs.declared.role.Role.{Role}
 use Rattle.fak_queue.specs.declared.role.Role.TheVariants.{Sender, Receiver}
 use Rattle.fak_queue.specs.SeatAccounts.{HasAccount}
 use Rattle.fak_queue.specs.BitSteps.{mask_of, others_of, SetBit, SawBit, TookBack, GaveUp, Looked, Cleared, TestsRoomAgain, TestsItemAgain, TestsDrainedAgain, ChecksDrained}
-use Rattle.fak_queue.specs.Sleepers.{duty_as, first_bits, has_bit}
+use Rattle.fak_queue.specs.Sleepers.{duty_as, first_bits}
 use Rattle.fak_queue.proofs.Allowed.{named, of_step}
 use Rattle.fak_queue.proofs.BitSteps.{sets_bit, sees_bit, takes_back, gives_up, looks, clears, tests_room_again, tests_item_again, tests_drained_again, checks_drained}
 use Rattle.fak_queue.proofs.Stepping.{QueueTable, Permits}

@@ -8,12 +8,12 @@ use Rattle.fak_model.specs.declared.note.Note.{Note}
 use Rattle.fak_model.specs.declared.note.NoteKind.{NoteKind}
 use Rattle.fak_model.specs.declared.note.NoteKind.TheVariants.{AsSender, AsReceiver, Checks}
 use Rattle.fak_model.specs.declared.note.Sign.{Sign}
-use Rattle.fak_model.specs.declared.note.Sign.TheVariants.{Registers, FindsNoItem, FallsAsleep, IsWoken, TakesBack, GivesUp, PassesWord, WakesEnd}
+use Rattle.fak_model.specs.declared.note.Sign.TheVariants.{Registers, FindsNoItem, FallsAsleep, IsWoken, TakesBack, FindsBit, GivesUp, PassesWord, FindsWord, WakesEnd}
 use Rattle.fak_model.specs.Views.{noting, with_note}
 use Rattle.fak_model.proofs.Deciding.{same_or_not}
-use Rattle.fak_model.proofs.RunningSteps.{observes, stays, takes_note}
+use Rattle.fak_model.proofs.RunningSteps.{observes, takes_note}
 use Rattle.fak_core.specs.declared.queue.phase.Phase.TheVariants.{Idle}
-use Rattle.fak_channel_core.specs.SleeperSides.{Awake, Registered, PastLower, Woken, bits_after, is_clear, relies_on_bit}
+use Rattle.fak_channel_core.specs.SleeperSides.{Awake, Registered, PastLower, Woken, bits_after, has_bit, is_as, is_clear, relies_on_bit, shows_bits}
 use Rattle.fak_channel_core.specs.SleeperMoves.{Account, is_void}
 use Rattle.fak_queue.specs.declared.in_use.InUse.{InUse}
 use Rattle.fak_queue.specs.declared.role.Role.{Role}
@@ -23,11 +23,11 @@ use Rattle.fak_queue.specs.Drained.{IsDrained}
 use Rattle.fak_queue.specs.Found.{HasRoom, HasNoRoom, HasItem, HasNoItem}
 use Rattle.fak_queue.specs.SeatAccounts.{HasAccount}
 use Rattle.fak_queue.specs.BitSteps.{Notes, note_by, mask_of, others_of, is_drained, SetBit, SawBit, TookBack, GaveUp, Looked, Cleared, TestedRoomAgain, TestedItemAgain, TestedDrainedAgain, CheckedDrained}
-use Rattle.fak_queue.specs.Sleepers.{AreSleepers, as_role, bits_as, duty_as, first_bits, has_bit, is_set}
+use Rattle.fak_queue.specs.Sleepers.{AreSleepers, as_role, bits_as, duty_as, first_bits, is_set}
 use Rattle.fak_queue.specs.Words.{IsInUse}
 use Rattle.fak_queue.proofs.Observations.{is_flag, one_count}
 use Rattle.fak_queue.proofs.Shutting.{shut_exactly}
-use Rattle.fak_queue.proofs.SleeperNotes.{may_as, notes_with, signed, checked, same_bits, same_bit, changed_bit, shown_by, all_true, may_register, may_be_woken, may_take_back, may_give_up, may_pass, may_wake, may_sleep_full, may_find_none, may_sleep_empty}
+use Rattle.fak_queue.proofs.SleeperNotes.{may_as, notes_with, signed, checked, same_bits, same_bit, changed_bit, all_true, may_register, may_be_woken, may_take_back, may_give_up, may_pass, may_find, may_find_word, may_wake, may_sleep_full, may_find_none, may_sleep_empty}
 use Rattle.fak_queue.proofs.Accounts.{kinds_foreign}
 use Rattle.fak_queue.proofs.Sleepers.{few_words, word_else}
 use Rattle.fak_queue.proofs.WordWrites.{below_word, full_word, shut_above, open_below, only_shut, only_below, only_full, only_positive, only_empty, positive_word, empty_word}
@@ -50,6 +50,10 @@ clear_else w k i l ne = ap (λ d. nat_eq d 1) (bit_at_clear_other w64 w (k % 64)
 
 no_bit : (j : ℕ) → has_bit 0 j ≡ false
 no_bit j = ap (λ d. nat_eq d 1) (bit_at-zero j)
+
+-- a bit is as it was found
+as_itself : (b c : Bool) → b ≡ c → is_as b c ≡ true
+as_itself b c e = grind (arith, common_steps)
 
 -- ---- what a count shows
 
@@ -159,14 +163,7 @@ module _ {T : Type 0} (key : QueueLimits) (s : QueueTable T) (r : IsShownQueue k
         subst (λ (y : Note). let v : QueueView T = sight m.0.names (with_note y m.0.noted) r.core.past Idle m.0.left in
         IsShownQueue key (stepped s i w id m.1 v keeps) × Leaves (queue_object key.size key.seats) (noting y m.0, m.1) [] Idle m.0.left m.1 tells (v, m.1)) is q
 
-    -- one that adds none
-    quiet_step : (i w : ℕ) → WordsOf (set s.words i w) → AreSleepers key.size key.seats r.core r.notes (set s.words i w) → (tells : List (Mark T) → Type 0) → tells r.core.past → Quiet i w tells
-    quiet_step i w words sleepers tells told =
-        let o = queue_object key.size key.seats in
-        steps o s r id n m at one (queue_law key.size key.seats r.encoded.some_cell) r.core [] (Alike Idle) (stays o s r id n m at one (Alike Idle) e) i w keeps
-        (encoded r.notes (set s.words i w) words sleepers) m.0.left (omega arith) tells told
-
-    -- a load
+    -- a load that adds none
     quiet_load : (i : ℕ) (tells : List (Mark T) → Type 0) → tells r.core.past → Quiet i (slice_index s.words i) tells
     quiet_load i tells told = observes (queue_object key.size key.seats) s r id n m at one (queue_law key.size key.seats r.encoded.some_cell) (Alike Idle) e i tells told
 
@@ -197,8 +194,9 @@ module _ {T : Type 0} (key : QueueLimits) (s : QueueTable T) (r : IsShownQueue k
         let i = first_bits role key.size + n / 64 in
         let found = slice_index s.words i in
         elim (true_or_false (has_bit found (n % 64))) [
-          | inl is ↦ (let q = quiet_load i TellsNothing tt in
-              (sight m.0.names m.0.noted r.core.past Idle m.0.left, keeps, tt, q.0, subst (λ b. SawBit key.size key.seats n role b m (sight m.0.names m.0.noted r.core.past Idle m.0.left, m.1)) (sym is) q.1))
+          | inl is ↦ (let v : QueueView T = sight m.0.names (with_note (note_by n (as_role role (FindsBit n true)) m) m.0.noted) r.core.past Idle m.0.left in
+              let q = note_load role (FindsBit n true) (λ bit. refl) (may_find key.seats key.size n r.core r.notes s.words S role n true (sym (S.bits role n few) ∙ is)) i TellsNothing tt in
+              (v, keeps, tt, q.0, subst (λ b. SawBit key.size key.seats n role b m (v, m.1)) (sym is) q.1))
           | inr not_set ↦ (let v : QueueView T = sight m.0.names (with_note (note_by n (as_role role IsWoken) m) m.0.noted) r.core.past Idle m.0.left in
               let q = note_load role IsWoken (λ bit. refl) (may_be_woken key.seats key.size n r.core r.notes s.words S role (known A) (sym (S.bits role n few) ∙ not_set)) i TellsNothing tt in
               (v, keeps, tt, q.0, subst (λ b. SawBit key.size key.seats n role b m (v, m.1)) (sym not_set) q.1))
@@ -238,6 +236,15 @@ module _ {T : Type 0} (key : QueueLimits) (s : QueueTable T) (r : IsShownQueue k
         let clear : is_set role key.size s.words (64 * j + i) ≡ false = (λ z. has_bit (slice_index s.words (first_bits role key.size + word z)) (bit z)) ∙ (ap (λ w. has_bit w i) none ∙ no_bit i) in
         ap not (sym (S.bits role (64 * j + i) (omega (arith, near, l))) ∙ clear))
 
+    shown_word : (role : Role) (j : ℕ) → j < 16 → shows_bits (bits_as role S.state) j (slice_index s.words (first_bits role key.size + j)) ≡ true
+    shown_word role j near =
+        let found = slice_index s.words (first_bits role key.size + j) in
+        all_true (λ i. is_as (has_bit found i) (bits_as role S.state (64 * j + i))) 64 (λ i l.
+        let word : (64 * j + i) / 64 ≡ j = omega (arith, l) in
+        let bit : (64 * j + i) % 64 ≡ i = omega (arith, l) in
+        let at : is_set role key.size s.words (64 * j + i) ≡ has_bit found i = λ z. has_bit (slice_index s.words (first_bits role key.size + word z)) (bit z) in
+        as_itself (has_bit found i) (bits_as role S.state (64 * j + i)) (sym at ∙ S.bits role (64 * j + i) (omega (arith, near, l))))
+
     pub looks : (role : Role) (j : ℕ) → j < 16 → Permits key s r id n m at one (first_bits role key.size + j) (λ w. w) (λ found after. Looked key.size key.seats n role j found m after)
     looks role j near =
         let i = first_bits role key.size + j in
@@ -246,8 +253,9 @@ module _ {T : Type 0} (key : QueueLimits) (s : QueueTable T) (r : IsShownQueue k
           | inl none ↦ (let v : QueueView T = sight m.0.names (with_note (note_by n (as_role role (PassesWord j)) m) m.0.noted) r.core.past Idle m.0.left in
               let q = note_load role (PassesWord j) (λ bit. refl) (may_pass key.seats key.size n r.core r.notes s.words S role j (clear_word role j near none)) i TellsNothing tt in
               (v, keeps, tt, q.0, record { none = λ _. q.1; some = λ no. absurd (no none) }))
-          | inr any ↦ (let q = quiet_load i TellsNothing tt in
-              (sight m.0.names m.0.noted r.core.past Idle m.0.left, keeps, tt, q.0, record { none = λ none. absurd (any none); some = λ _. q.1 }))
+          | inr any ↦ (let v : QueueView T = sight m.0.names (with_note (note_by n (as_role role (FindsWord j found)) m) m.0.noted) r.core.past Idle m.0.left in
+              let q = note_load role (FindsWord j found) (λ bit. refl) (may_find_word key.seats key.size n r.core r.notes s.words S role j found (shown_word role j near)) i TellsNothing tt in
+              (v, keeps, tt, q.0, record { none = λ none. absurd (any none); some = λ _. q.1 }))
         ]
 
     pub clears : (role : Role) (k : ℕ) → k < 1024 → Permits key s r id n m at one (first_bits role key.size + k / 64) (λ w. bit_and w (others_of k)) (λ found after. Cleared key.size key.seats n role k (has_bit found (k % 64)) m after)
@@ -259,9 +267,12 @@ module _ {T : Type 0} (key : QueueLimits) (s : QueueTable T) (r : IsShownQueue k
           | inl is ↦ (let v : QueueView T = sight m.0.names (with_note (note_by n (as_role role (WakesEnd k)) m) m.0.noted) r.core.past Idle m.0.left in
               let q = note_write role (WakesEnd k) k small false (λ bit. refl) (may_wake key.seats key.size n r.core r.notes s.words S role k (sym (S.bits role k small) ∙ is)) w (clear_here found k) (clear_else found k) in
               (v, keeps, tt, q.0, subst (λ b. Cleared key.size key.seats n role k b m (v, m.1)) (sym is) q.1))
-          | inr not_set ↦ (let v : QueueView T = sight m.0.names m.0.noted r.core.past Idle m.0.left in
-              let shows = same_bit key.seats key.size n r.core r.notes s.words S role k small r.encoded.words_are.wide (sym (S.bits role k small) ∙ not_set) w (clear_here found k) (clear_else found k) in
-              let q = quiet_step i w (words_bit role k w small) (shown_by key.seats key.size n r.core r.notes s.words S (set s.words i w) shows) TellsNothing tt in
+          | inr not_set ↦ (let v : QueueView T = sight m.0.names (with_note (note_by n (as_role role (FindsBit k false)) m) m.0.noted) r.core.past Idle m.0.left in
+              let clear = sym (S.bits role k small) ∙ not_set in
+              let shows = same_bit key.seats key.size n r.core r.notes s.words S role k small r.encoded.words_are.wide clear w (clear_here found k) (clear_else found k) in
+              let q = note_step (as_role role (FindsBit k false)) i w (words_bit role k w small)
+              (signed key.seats key.size n r.core r.notes s.words S low idle role (FindsBit k false) (may_find key.seats key.size n r.core r.notes s.words S role k false clear) (set s.words i w)
+              (same_bits key.seats key.size n r.core r.notes s.words S role (FindsBit k false) (λ bit. refl) (set s.words i w) shows)) TellsNothing tt in
               (v, keeps, tt, q.0, subst (λ b. Cleared key.size key.seats n role k b m (v, m.1)) (sym not_set) q.1))
         ]
 

@@ -5,7 +5,8 @@ use Rattle.fak_model.proofs.Appending.{history_none}
 use Rattle.fak_channel_core.specs.SleeperMoves.{sleeper_opening}
 use Rattle.fak_queue.specs.declared.role.Role.{Role}
 use Rattle.fak_queue.specs.declared.role.Role.TheVariants.{Sender, Receiver}
-use Rattle.fak_queue.specs.Sleepers.{bits_as, has_bit, is_set}
+use Rattle.fak_channel_core.specs.SleeperSides.{has_bit}
+use Rattle.fak_queue.specs.Sleepers.{bits_as, is_set}
 use Rattle.std.specs.Prelude.{◌/◌, ◌%◌, ◌≢◌, nat_eq}
 use Rattle.std.proofs.Common.{ap}
 use Rattle.std.proofs.lemmas.Nat.Bits.{bit_at-zero}

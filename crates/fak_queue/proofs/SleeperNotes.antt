@@ -7,19 +7,19 @@ use Rattle.fak_model.specs.declared.note.Note.{Note}
 use Rattle.fak_model.specs.declared.note.NoteKind.{NoteKind}
 use Rattle.fak_model.specs.declared.note.NoteKind.TheVariants.{AsSender, AsReceiver, Checks}
 use Rattle.fak_model.specs.declared.note.Sign.{Sign}
-use Rattle.fak_model.specs.declared.note.Sign.TheVariants.{Registers, FindsNoItem, FallsAsleep, IsWoken, TakesBack, GivesUp, PassesWord, WakesEnd}
+use Rattle.fak_model.specs.declared.note.Sign.TheVariants.{Registers, FindsNoItem, FallsAsleep, IsWoken, TakesBack, FindsBit, GivesUp, PassesWord, FindsWord, WakesEnd}
 use Rattle.fak_core.specs.declared.queue.phase.Phase.TheVariants.{Idle}
 use Rattle.fak_core.specs.QueueMoves.{QueueState, with_at}
 use Rattle.fak_core.proofs.Common.{refl, sym, ap, ◌∙◌, subst, same_or_not, cond_here, cond_else}
 use Rattle.fak_core.proofs.QueueTurns.{at_here, at_else}
-use Rattle.fak_channel_core.specs.SleeperSides.{Awake, Registered, PastLower, Woken, all_below, bits_after, is_awake, is_clear, is_past_lower, is_registered, is_woken, relies_on_bit}
+use Rattle.fak_channel_core.specs.SleeperSides.{Awake, Registered, PastLower, Woken, all_below, bits_after, is_awake, is_clear, is_past_lower, is_registered, is_woken, relies_on_bit, has_bit, shows_bits}
 use Rattle.fak_channel_core.specs.SleeperMoves.{Account, after_note, SleeperState, sleeper_opening, sender_side, receiver_side, with_deed, Notes, is_void, sender_may, receiver_may, is_idle, sender_signs, receiver_signs}
 use Rattle.fak_channel_core.specs.SleeperSchedule.{SleeperEvent, SenderSigns, ReceiverSigns, ChecksUpper, sleeper_happens, sleeper_run}
 use Rattle.fak_channel_core.proofs.SleeperTests.{if_so, make_both}
 use Rattle.fak_queue.specs.declared.role.Role.{Role}
 use Rattle.fak_queue.specs.declared.role.Role.TheVariants.{Sender, Receiver}
 use Rattle.fak_queue.specs.Accounts.{account_of, kinds_by, AreWithin}
-use Rattle.fak_queue.specs.Sleepers.{AreSleepers, as_role, bits_as, duty_as, first_bits, has_bit, is_set}
+use Rattle.fak_queue.specs.Sleepers.{AreSleepers, as_role, bits_as, duty_as, first_bits, is_set}
 use Rattle.fak_queue.proofs.Accounts.{account_noted}
 use Rattle.fak_queue.proofs.Sleepers.{bits_stay, few_words, low_event, sleeper-append, word_else}
 
@@ -169,10 +169,6 @@ module _ {T : Type 0} (seats size n : ℕ) (core : QueueState T) (notes : ℕ �
   same_bit Receiver k small wide is w here others Sender j l = senders_stay (80 + size + k / 64) w j (omega arith) l
   same_bit Receiver k small wide is w here others Receiver j l = own_bit Receiver k small wide false w here others j l ∙ at_same S.state.receivers k false is j
 
-  -- words that show the same bits, without a note
-  pub shown_by : (ws : List ℕ) → ShowBits ws S.state → AreSleepers size seats core notes ws
-  shown_by ws bits = record { state = S.state; queue = S.queue; schedule = S.schedule; leads = S.leads; bits = bits; accounts = S.accounts; within = S.within }
-
   -- ---- when the seat may leave a sign
 
   pub may_register : (role : Role) → (duty_as role (S.state.accounts n)).stage ≡ Awake → may_as role size S.state n Registers ≡ true
@@ -194,6 +190,16 @@ module _ {T : Type 0} (seats size n : ℕ) (core : QueueState T) (notes : ℕ �
   pub may_pass : (role : Role) (w : ℕ) → is_clear (bits_as role S.state) w ≡ true → may_as role size S.state n (PassesWord w) ≡ true
   may_pass Sender w e = e
   may_pass Receiver w e = e
+
+  pub may_find : (role : Role) (k : ℕ) (b : Bool) → bits_as role S.state k ≡ b → may_as role size S.state n (FindsBit k b) ≡ true
+  may_find Sender k true e = e
+  may_find Sender k false e = ap not e
+  may_find Receiver k true e = e
+  may_find Receiver k false e = ap not e
+
+  pub may_find_word : (role : Role) (w found : ℕ) → shows_bits (bits_as role S.state) w found ≡ true → may_as role size S.state n (FindsWord w found) ≡ true
+  may_find_word Sender w found e = e
+  may_find_word Receiver w found e = e
 
   pub may_wake : (role : Role) (k : ℕ) → bits_as role S.state k ≡ true → may_as role size S.state n (WakesEnd k) ≡ true
   may_wake Sender k e = e

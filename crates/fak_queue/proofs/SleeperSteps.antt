@@ -1,7 +1,7 @@
 -- From each step on the bits to what it leaves at the seat, and what its callers see.
 use Rattle.fak_model.specs.declared.note.NoteKind.{NoteKind}
 use Rattle.fak_model.specs.declared.note.NoteKind.TheVariants.{AsSender, AsReceiver, Checks}
-use Rattle.fak_model.specs.declared.note.Sign.TheVariants.{FindsNoItem, FallsAsleep, IsWoken, TakesBack, PassesWord, WakesEnd}
+use Rattle.fak_model.specs.declared.note.Sign.TheVariants.{FindsNoItem, FallsAsleep, IsWoken, TakesBack, FindsBit, PassesWord, FindsWord, WakesEnd}
 use Rattle.fak_model.proofs.Deciding.{same_or_not}
 use Rattle.fak_queue.specs.declared.role.Role.{Role}
 use Rattle.fak_queue.specs.BitSteps.{Notes, NotesNothing, SawBit, TookBack, Looked, Cleared, TestedRoomAgain, TestedItemAgain, TestedDrainedAgain, CheckedDrained}
@@ -10,7 +10,7 @@ use Rattle.fak_queue.specs.Found.{HasRoom, HasNoRoom, HasItem, HasNoItem}
 use Rattle.fak_queue.specs.SeatParts.{PartsInfo, queue_parts}
 use Rattle.fak_queue.specs.Sleepers.{as_role}
 use Rattle.fak_queue.specs.SleeperSeats.{SleeperInfo, KnowsNotes, AddsNote, AddsNoNote, SeesBit, TakesBit, LooksAt, ClearsBit, TestsRoom, TestsItem, TestsDrained, ChecksDrained, sleeper_info}
-use Rattle.fak_queue.proofs.Common.{UpperCount, LowerCount, QueueLimits, QueueHolder, QueueInfo, queue_info, IsQueue, IsQueueSeat, Close, Has, Full, Shut, ◌≡◌, ℕ, List, ap, subst, inl, inr, reverse, Ok, Err, Bool, true, false, Mark, Phase, TableId, object_id, state_of, Idle}
+use Rattle.fak_queue.proofs.Common.{UpperCount, LowerCount, QueueLimits, QueueHolder, QueueInfo, queue_info, IsQueue, IsQueueSeat, Close, Has, Full, Shut, ◌≡◌, ◌∙◌, ℕ, List, ap, subst, inl, inr, reverse, Ok, Err, Bool, true, false, Mark, Phase, TableId, object_id, state_of, Idle}
 use Rattle.fak_queue.proofs.SleeperSeats.{Here, seat_quiet, knows_quiet, adds_no_note, told_quiet, seat_noted, knows_noted, adds_note, told_noted}
 
 module _ {T : Type 0} (key : QueueLimits) {size seats name left : ℕ} {p : Phase T} {table mine : TableId} {m : QueueHolder T} {parts : PartsInfo T} {old : SleeperInfo T} {queue : QueueInfo}
@@ -39,10 +39,13 @@ module _ {T : Type 0} (key : QueueLimits) {size seats name left : ℕ} {p : Phas
   size_is : table.slots ≡ queue.size
   size_is = ap (λ (i : QueueInfo). i.size) queue_is
 
+  name_is : name ≡ old.seat.name
+  name_is = ap (λ (p : PartsInfo T). p.seat.name) parts_is ∙ ap (λ (s : SleeperInfo T). s.seat.name) old_is
+
   -- ---- the steps
 
   pub saw : (role : Role) (b : Bool) → SawBit table.slots key.seats name role b m after → Kept (SeesBit queue.size role b old New)
-  saw role true l = quiet l
+  saw role true l = subst (λ k. Kept (AddsNote queue.size (as_role role (FindsBit k true)) old New)) name_is (noted (as_role role (FindsBit name true)) l)
   saw role false l = noted (as_role role IsWoken) l
 
   pub took : (role : Role) (b : Bool) → TookBack table.slots key.seats name role b m after → Kept (TakesBit queue.size role b old New)
@@ -52,12 +55,12 @@ module _ {T : Type 0} (key : QueueLimits) {size seats name left : ℕ} {p : Phas
   pub looked : (role : Role) (word found : ℕ) → Looked table.slots key.seats name role word found m after → Kept (LooksAt queue.size role word found old New)
   looked role word found l = elim (same_or_not found 0) [
     | inl none ↦ (let a = noted (as_role role (PassesWord word)) (l.none none) in (a.0, a.1, record { none = λ _. a.2; some = λ some. absurd (some none) }))
-    | inr some ↦ (let a = quiet (l.some some) in (a.0, a.1, record { none = λ none. absurd (some none); some = λ _. a.2 }))
+    | inr some ↦ (let a = noted (as_role role (FindsWord word found)) (l.some some) in (a.0, a.1, record { none = λ none. absurd (some none); some = λ _. a.2 }))
   ]
 
   pub cleared : (role : Role) (other : ℕ) (b : Bool) → Cleared table.slots key.seats name role other b m after → Kept (ClearsBit queue.size role other b old New)
   cleared role other true l = noted (as_role role (WakesEnd other)) l
-  cleared role other false l = quiet l
+  cleared role other false l = noted (as_role role (FindsBit other false)) l
 
   pub tested_room : (u : UpperCount) → TestedRoomAgain table.slots key.seats name u m after → Kept (TestsRoom queue.size u old New)
   tested_room (Ok room) l = subst (λ z. Kept (AddsNoNote queue.size old New × HasRoom z (reverse after.0.seen))) size_is (quiet_told (HasRoom table.slots) l)

@@ -21,7 +21,8 @@ use Rattle.fak_channel_core.proofs.SleeperTests.{if_so, lt_true}
 use Rattle.fak_queue.specs.declared.role.Role.{Role}
 use Rattle.fak_queue.specs.declared.role.Role.TheVariants.{Sender, Receiver}
 use Rattle.fak_queue.specs.Accounts.{account_of, kinds_by, AreWithin}
-use Rattle.fak_queue.specs.Sleepers.{AreSleepers, bits_as, first_bits, has_bit}
+use Rattle.fak_channel_core.specs.SleeperSides.{has_bit}
+use Rattle.fak_queue.specs.Sleepers.{AreSleepers, bits_as, first_bits}
 use Rattle.fak_queue.proofs.Accounts.{account_marked, kinds_else, kinds_own, within_more}
 use Rattle.fak_queue.proofs.ReachedFrom.{AreLow, IsReachedFrom}
 

@@ -5,7 +5,7 @@ use Rattle.std.specs.Int.{bit_not, w64}
 use Rattle.fak_model.specs.declared.note.Note.{Note}
 use Rattle.fak_model.specs.declared.note.NoteKind.{NoteKind}
 use Rattle.fak_model.specs.declared.note.NoteKind.TheVariants.{AsSender, AsReceiver, Checks}
-use Rattle.fak_model.specs.declared.note.Sign.TheVariants.{Registers, FindsNoItem, FallsAsleep, IsWoken, TakesBack, GivesUp, PassesWord, WakesEnd}
+use Rattle.fak_model.specs.declared.note.Sign.TheVariants.{Registers, FindsNoItem, FallsAsleep, IsWoken, TakesBack, FindsBit, GivesUp, PassesWord, FindsWord, WakesEnd}
 use Rattle.fak_model.specs.declared.queue.Mark.{Mark}
 use Rattle.fak_model.specs.declared.queue.Kind.TheVariants.{Close}
 use Rattle.fak_model.specs.Queue.{Has}
@@ -55,7 +55,7 @@ module _ {T : Type 0} (size seats n : ℕ) where
 
   -- the bit is still set, or another end has cleared it
   abbrev pub SawBit : Role → Bool → QueueHolder T → QueueHolder T → Type 0
-  SawBit role true m after = NotesNothing size seats TellsNothing m after
+  SawBit role true m after = Notes size seats n (as_role role (FindsBit n true)) TellsNothing m after
   SawBit role false m after = Notes size seats n (as_role role IsWoken) TellsNothing m after
 
   -- the bit is clear now. It was set, or another end had cleared it
@@ -71,12 +71,12 @@ module _ {T : Type 0} (size seats n : ℕ) where
   -- no bit of this word is set, or some
   pub record Looked (role : Role) (word found : ℕ) (m after : QueueHolder T) : Type 0 where
     pub none : found ≡ 0 → Notes size seats n (as_role role (PassesWord word)) TellsNothing m after
-    pub some : found ≢ 0 → NotesNothing size seats TellsNothing m after
+    pub some : found ≢ 0 → Notes size seats n (as_role role (FindsWord word found)) TellsNothing m after
 
-  -- the bit of end k is clear now. If it was set, this has woken that end
+  -- the bit of end k is clear now. If it was set, this has woken that end; if not, the note says so
   abbrev pub Cleared : Role → ℕ → Bool → QueueHolder T → QueueHolder T → Type 0
   Cleared role k true m after = Notes size seats n (as_role role (WakesEnd k)) TellsNothing m after
-  Cleared role k false m after = NotesNothing size seats TellsNothing m after
+  Cleared role k false m after = Notes size seats n (as_role role (FindsBit k false)) TellsNothing m after
 
   -- ---- tests
 

@@ -3,7 +3,7 @@ use Rattle.std.specs.Prelude.{◌≡◌, ◌≢◌, ℕ, ◌+◌, ◌-◌, ◌*�
 use Rattle.fak_model.specs.declared.note.Note.{Note}
 use Rattle.fak_model.specs.declared.note.NoteKind.{NoteKind}
 use Rattle.fak_model.specs.declared.note.NoteKind.TheVariants.{AsSender, AsReceiver, Checks}
-use Rattle.fak_model.specs.declared.note.Sign.TheVariants.{FindsNoItem, FallsAsleep, IsWoken, TakesBack, PassesWord, WakesEnd}
+use Rattle.fak_model.specs.declared.note.Sign.TheVariants.{FindsNoItem, FallsAsleep, IsWoken, TakesBack, FindsBit, PassesWord, FindsWord, WakesEnd}
 use Rattle.fak_model.specs.declared.queue.Kind.{Kind}
 use Rattle.fak_model.specs.declared.queue.Kind.TheVariants.{Close}
 use Rattle.fak_model.specs.declared.queue.Mark.{Mark}
@@ -91,7 +91,7 @@ AddsNoNote size old new = LeavesNoMark size old.notes (account_of_seat old) old 
 module _ {T : Type 0} (size : ℕ) where
   -- the own bit is still set, or another end has cleared it
   abbrev pub SeesBit : Role → Bool → SleeperInfo T → SleeperInfo T → Type 0
-  SeesBit role true old new = AddsNoNote size old new
+  SeesBit role true old new = AddsNote size (as_role role (FindsBit old.seat.name true)) old new
   SeesBit role false old new = AddsNote size (as_role role IsWoken) old new
 
   -- the own bit is clear now. It was set, or another end had cleared it
@@ -99,15 +99,15 @@ module _ {T : Type 0} (size : ℕ) where
   TakesBit role true old new = AddsNote size (as_role role TakesBack) old new
   TakesBit role false old new = AddsNote size (as_role role IsWoken) old new
 
-  -- no bit of this word is set, or some
+  -- no bit of this word is set, or those of the number that was found
   pub record LooksAt (role : Role) (word found : ℕ) (old new : SleeperInfo T) : Type 0 where
     pub none : found ≡ 0 → AddsNote size (as_role role (PassesWord word)) old new
-    pub some : found ≢ 0 → AddsNoNote size old new
+    pub some : found ≢ 0 → AddsNote size (as_role role (FindsWord word found)) old new
 
-  -- the bit of end k is clear now. If it was set, this has woken that end
+  -- the bit of end k is clear now. If it was set, this has woken that end; if not, the note says so
   abbrev pub ClearsBit : Role → ℕ → Bool → SleeperInfo T → SleeperInfo T → Type 0
   ClearsBit role k true old new = AddsNote size (as_role role (WakesEnd k)) old new
-  ClearsBit role k false old new = AddsNoNote size old new
+  ClearsBit role k false old new = AddsNote size (as_role role (FindsBit k false)) old new
 
   -- the second test of a sender. If there is no room and the queue is open, it falls asleep
   abbrev pub TestsRoom : Result (Unit {0}) NoRoom → SleeperInfo T → SleeperInfo T → Type 0

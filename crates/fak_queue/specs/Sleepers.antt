@@ -1,13 +1,12 @@
 -- The sleepers of a channel, in a queue's table. Their bits are in the sixteen words before the counts and in the sixteen
 -- after the turns, 64 to a word.
-use Rattle.std.specs.Prelude.{◌≡◌, ℕ, ◌+◌, ◌/◌, ◌%◌, ◌<◌, nat_eq, Bool, List, length, slice_index}
-use Rattle.std.specs.Int.{bit_at}
+use Rattle.std.specs.Prelude.{◌≡◌, ℕ, ◌+◌, ◌/◌, ◌%◌, ◌<◌, Bool, List, length, slice_index}
 use Rattle.fak_model.specs.declared.note.Note.{Note}
 use Rattle.fak_model.specs.declared.note.NoteKind.{NoteKind}
 use Rattle.fak_model.specs.declared.note.NoteKind.TheVariants.{AsSender, AsReceiver}
 use Rattle.fak_model.specs.declared.note.Sign.{Sign}
 use Rattle.fak_core.specs.QueueMoves.{QueueState}
-use Rattle.fak_channel_core.specs.SleeperSides.{Duty}
+use Rattle.fak_channel_core.specs.SleeperSides.{Duty, has_bit}
 use Rattle.fak_channel_core.specs.SleeperMoves.{Account, SleeperState}
 use Rattle.fak_channel_core.specs.SleeperSchedule.{SleeperEvent, sleeper_reached}
 use Rattle.fak_queue.specs.declared.role.Role.{Role}
@@ -37,10 +36,6 @@ first_bits Sender size = 0
 first_bits Receiver size = 80 + size
 
 -- ---- bits
-
--- this bit of the word is set
-abbrev pub has_bit : ℕ → ℕ → Bool
-has_bit w j = nat_eq (bit_at w j) 1
 
 -- the bit of this name is set in the words
 abbrev pub is_set : Role → ℕ → List ℕ → ℕ → Bool

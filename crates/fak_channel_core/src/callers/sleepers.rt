@@ -10,11 +10,11 @@ ghost use Rattle.fak_core.specs.QueueSchedule.{QueueEvent};
 ghost use Rattle.fak_channel_core.specs.SleeperMoves.{SleeperState, queue_event};
 ghost use Rattle.fak_channel_core.specs.SleeperProgress.{ComesOn, EndsCallWithin};
 ghost use Rattle.fak_channel_core.specs.SleeperSchedule.{AllEndsRest, ReceiverSigns, ReceiverSleeps, SenderSigns, SenderSleeps, SleeperEvent, end_of, queue_events, sleeper_happens, sleeper_reached};
-ghost use Rattle.fak_model.specs.declared.note.Sign.TheVariants.{IsWoken};
+ghost use Rattle.fak_model.specs.declared.note.Sign.TheVariants.{FindsBit, IsWoken};
 ghost use Rattle.fak_channel_core.specs.SleeperSides.{Asleep};
 
 use crate::laws::sleepers::{
-    a_channel_never_locks_up, a_queue_goes_its_own_way, a_woken_end_goes_on,
+    a_channel_never_locks_up, a_note_of_a_bit_is_true, a_queue_goes_its_own_way, a_woken_end_goes_on,
     an_end_knows_what_it_owes, every_call_of_a_channel_ends, nobody_sleeps_beside_work,
     the_queue_of_a_channel_is_reached,
 };
@@ -122,4 +122,12 @@ mod tests {
         a_call_on_one_cell_ends_within_seven_rounds::<u64>();
         a_cleared_bit_ends_a_sleep::<u64>();
     }
+}
+
+/// A receiver that was woken cannot note that its bit is still set.
+pub fn a_woken_receiver_cannot_sleep_on<T>()
+    ensures { (n size e : ℕ) (s : SleeperState T) → s.receivers e ≡ false
+        → sleeper_happens n size s (ReceiverSigns e (FindsBit e true)) ≡ s }
+{
+    a_note_of_a_bit_is_true::<T>();
 }

@@ -6,8 +6,9 @@ ghost use Rattle.fak_core.specs.QueueMoves.{history_of};
 ghost use Rattle.fak_channel_core.specs.SleeperExamples.{after_schedule, bit_of, busy_end_signs, close_owes, close_wakes_receiver, close_wakes_sender, deadline_comes, deadline_is_late, deletion_withdraws, insertion_withdraws, item_is_missing, last_deletion_ends, late_insertion_withdraws, looker_signs, one_look, receiver_ends, receiver_is_told, receiver_owes, receiver_sleeps, receiver_takes_back, receiver_tests, receiver_tests_drained, receiver_wakes, sender_ends, sender_is_told, sender_owes, sender_sleeps, sender_tests, sender_tests_closed, sender_wakes, sleeper_signs, stranger_signs, two_looks, wake_is_passed_on, woken_end_registers, woken_receiver_claims_too_much, woken_sender_claims_too_late, woken_sender_claims_too_much, woken_sender_is_refused, woken_sender_tests};
 ghost use Rattle.fak_channel_core.specs.SleeperProgress.{ComesOn, steps_to_rest};
 ghost use Rattle.fak_channel_core.specs.SleeperSchedule.{AllEndsRest, IsResting, ReceiverSleeps, SenderSleeps};
-ghost use Rattle.fak_model.specs.declared.note.Sign.TheVariants.{PassesWord, WakesEnd};
-ghost use Rattle.fak_channel_core.specs.SleeperSides.{Awake, PastLower, Registered, Woken, after_sign, is_clear, owes_look};
+ghost use Rattle.fak_model.specs.declared.note.Sign.TheVariants.{FindsBit, FindsWord, PassesWord, WakesEnd};
+ghost use Rattle.fak_channel_core.specs.SleeperMoves.{receiver_side};
+ghost use Rattle.fak_channel_core.specs.SleeperSides.{Awake, Duty, PastLower, Registered, Woken, after_sign, is_clear, may_sign, owes_look};
 
 /// A receiver sleeps on the empty channel, and all ends rest. After a send there is an item, and it sleeps still, but the
 /// sender owes a look. The look wakes the receiver, which takes the item.
@@ -106,6 +107,19 @@ pub fn a_sign_that_is_not_true_is_judged()
         × ((after_schedule busy_end_signs).senders 0 ≡ false) }
     ensures stranger { ((after_schedule stranger_signs).receivers 3 ≡ false)
         × ((after_schedule stranger_signs).senders 3 ≡ false) }
+{}
+
+/// What an end notes of a load is true of the bits: of one, or of a word of them. It changes no duty.
+pub fn the_loads_of_bits_are_judged()
+    ensures set { may_sign (receiver_side (after_schedule receiver_sleeps)) 0 (FindsBit 0 true) ≡ true }
+    ensures not_clear { may_sign (receiver_side (after_schedule receiver_sleeps)) 1 (FindsBit 0 false) ≡ false }
+    ensures clear { may_sign (receiver_side (after_schedule sender_wakes)) 1 (FindsBit 0 false) ≡ true }
+    ensures not_set { may_sign (receiver_side (after_schedule sender_wakes)) 0 (FindsBit 0 true) ≡ false }
+    ensures word { may_sign (receiver_side (after_schedule receiver_sleeps)) 1 (FindsWord 0 1) ≡ true }
+    ensures one_more { may_sign (receiver_side (after_schedule receiver_sleeps)) 1 (FindsWord 0 3) ≡ false }
+    ensures one_less { may_sign (receiver_side (after_schedule receiver_sleeps)) 1 (FindsWord 0 0) ≡ false }
+    ensures other_word { may_sign (receiver_side (after_schedule receiver_sleeps)) 1 (FindsWord 1 1) ≡ false }
+    ensures kept { (g : Duty) → (after_sign 3 (FindsBit 0 true) g ≡ g) × (after_sign 3 (FindsWord 0 1) g ≡ g) }
 {}
 
 /// 64 bits share a word. A look ends once it has passed the words of all names, in any order. A wake ends one look, and

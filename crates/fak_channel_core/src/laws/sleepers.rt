@@ -1,6 +1,6 @@
 //! The laws of a channel whose sleepers are bits, for every number of ends, every size and every schedule.
 
-ghost use Rattle.std.specs.Prelude.{◌*◌, ◌+◌, ◌≡◌, ◌≢◌, ◌≤◌, ℕ, ◌<◌, List, [], length, map, min, false};
+ghost use Rattle.std.specs.Prelude.{◌*◌, ◌+◌, ◌≡◌, ◌≢◌, ◌≤◌, ℕ, ◌<◌, Bool, List, [], length, map, min, false};
 ghost use Rattle.std.specs.List.{All};
 ghost use Rattle.fak_model.specs.Queue.{contents};
 ghost use Rattle.fak_core.specs.declared.queue.phase.Phase.TheVariants.{Idle};
@@ -10,8 +10,8 @@ ghost use Rattle.fak_core.specs.QueueSchedule.{QueueEvent, happens, reached};
 ghost use Rattle.fak_channel_core.specs.SleeperMoves.{SleeperState, account_by, queue_event};
 ghost use Rattle.fak_channel_core.specs.SleeperProgress.{ComesOn, EndsCallWithin, steps_to_rest};
 ghost use Rattle.fak_channel_core.specs.SleeperSchedule.{AllEndsRest, IsResting, ReceiverSigns, ReceiverSleeps, SenderSigns, SenderSleeps, SleeperEvent, end_of, marks_in, queue_events, sleeper_happens, sleeper_reached};
-ghost use Rattle.fak_model.specs.declared.note.Sign.TheVariants.{IsWoken};
-ghost use Rattle.fak_channel_core.specs.SleeperSides.{Asleep, Woken};
+ghost use Rattle.fak_model.specs.declared.note.Sign.TheVariants.{FindsBit, FindsWord, IsWoken};
+ghost use Rattle.fak_channel_core.specs.SleeperSides.{Asleep, Woken, shows_bits};
 
 /// No wake-up is lost. If all ends rest, a receiver sleeps only if the channel is empty and open; a sender sleeps only if
 /// it is full and open.
@@ -71,6 +71,19 @@ pub fn a_woken_end_goes_on<T>()
     ensures receiver { (n size e : ℕ) (s : SleeperState T) → e < n → s.queue.phase e ≡ Idle
         → (s.accounts e).receiver.stage ≡ Asleep → s.receivers e ≡ false
         → ((sleeper_happens n size s (ReceiverSigns e IsWoken)).accounts e).receiver.stage ≡ Woken }
+{}
+
+/// A note of a bit is true: an end that would note anything else changes nothing, in any state. The same holds of a word of
+/// bits.
+pub fn a_note_of_a_bit_is_true<T>()
+    ensures sender { (n size e k : ℕ) (b : Bool) (s : SleeperState T) → s.senders k ≢ b
+        → sleeper_happens n size s (SenderSigns e (FindsBit k b)) ≡ s }
+    ensures receiver { (n size e k : ℕ) (b : Bool) (s : SleeperState T) → s.receivers k ≢ b
+        → sleeper_happens n size s (ReceiverSigns e (FindsBit k b)) ≡ s }
+    ensures senders { (n size e w found : ℕ) (s : SleeperState T) → shows_bits s.senders w found ≡ false
+        → sleeper_happens n size s (SenderSigns e (FindsWord w found)) ≡ s }
+    ensures receivers { (n size e w found : ℕ) (s : SleeperState T) → shows_bits s.receivers w found ≡ false
+        → sleeper_happens n size s (ReceiverSigns e (FindsWord w found)) ≡ s }
 {}
 
 /// Each call on the queue ends, even while new calls begin and ends sleep and look for sleepers. In a round each of the n

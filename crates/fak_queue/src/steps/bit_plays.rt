@@ -2,7 +2,7 @@
 
 ghost use Rattle.std.specs.Prelude.{ℕ, ◌%◌};
 ghost use Rattle.fak_queue.specs.BitSteps.{ChecksDrained, Cleared, GaveUp, Looked, SawBit, SetBit, TestsDrainedAgain, TestsItemAgain, TestsRoomAgain, TookBack};
-ghost use Rattle.fak_queue.specs.Sleepers.{has_bit};
+ghost use Rattle.fak_channel_core.specs.SleeperSides.{has_bit};
 ghost use Rattle.fak_queue.specs.Steps.{Named};
 
 use crate::phases::Phases;

@@ -3,11 +3,11 @@
 
 ghost use Rattle.std.specs.Prelude.{◌≡◌, ◌+◌, ◌%◌, ◌/◌, ◌<◌, ◌≤◌, ◌∷◌, [], true};
 ghost use Rattle.fak_model.specs.Limits.{large_seats, large_size};
-ghost use Rattle.fak_channel_core.specs.SleeperSides.{Awake, PastLower, Registered, Woken, relies_on_bit};
+ghost use Rattle.fak_channel_core.specs.SleeperSides.{Awake, PastLower, Registered, Woken, relies_on_bit, has_bit};
 ghost use Rattle.fak_core.specs.declared.queue.phase.Phase.TheVariants.{Idle};
 ghost use Rattle.fak_queue.specs.BitSteps.{CheckedDrained, Cleared, GaveUp, Looked, SawBit, SetBit, TestedDrainedAgain, TestedItemAgain, TestedRoomAgain, TookBack, is_drained, mask_of};
 ghost use Rattle.fak_queue.specs.SeatAccounts.{HasAccount};
-ghost use Rattle.fak_queue.specs.Sleepers.{duty_as, first_bits, has_bit};
+ghost use Rattle.fak_queue.specs.Sleepers.{duty_as, first_bits};
 ghost use Rattle.fak_queue.specs.StepTokens.{IsTokenOf, StandsAt, Tells};
 
 use crate::found::NoRoom;
