@@ -277,12 +277,15 @@ module _ {T : Type 0} (c : Channel T) (old new : ChannelSeat T) where
   MovesBy None_owed s = MovesNext old.standing.next s
 
 -- what a step tells callers outside this crate
-abbrev pub step_of : {T : Type 0} → Progress T → ChannelStep T
+abbrev pub step_of : {T : Type 0} → Progress → ChannelStep T
 step_of progress.GoesOn = GoesOn
 step_of progress.NotYet = NotYet
 step_of progress.Sleeps = Sleeps
 step_of (progress.Wakes wake) = Wakes wake.number
-step_of (progress.Ends o) = Ends o
+
+-- nothing is owed, and only the outcome of the call is left to return
+abbrev pub IsDone : {T : Type 0} → CallStanding T → Type 0
+IsDone {T} s = (first_debt s ≡ None_owed) × (o : Outcome T) × (s.next ≡ Ending o)
 
 -- one step of a call
 abbrev pub Moves : {T : Type 0} → Channel T → ChannelSeat T → ChannelSeat T → ChannelStep T → Type 0

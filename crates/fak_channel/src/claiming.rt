@@ -65,7 +65,7 @@ impl<T> CallStanding<T> {
 
 impl<T: Drop> Channel<T> {
     /// Claims room for the item. A claim that was withdrawn, or found the queue shut, owes a look for a sender, and a check.
-    pub(crate) fn claim_room(&self, seat: &mut ChannelSeat<T>, item: T) -> Progress<T>
+    pub(crate) fn claim_room(&self, seat: &mut ChannelSeat<T>, item: T) -> Progress
         requires object { seat.old.queue.seat.object ≡ self.now.queue.object }
         requires few { self.now.ends ≤ large_seats }
         requires may { MayClaim seat.old.queue }
@@ -96,7 +96,7 @@ impl<T: Drop> Channel<T> {
     }
 
     /// Claims an item. A claim that was withdrawn owes a look for a receiver.
-    pub(crate) fn claim_item(&self, seat: &mut ChannelSeat<T>) -> Progress<T>
+    pub(crate) fn claim_item(&self, seat: &mut ChannelSeat<T>) -> Progress
         requires object { seat.old.queue.seat.object ≡ self.now.queue.object }
         requires few { self.now.ends ≤ large_seats }
         requires may { MayClaim seat.old.queue }
@@ -118,7 +118,7 @@ impl<T: Drop> Channel<T> {
     }
 
     /// Moves the item into its cell, if it is the cell's turn. Then an item is there for a receiver.
-    pub(crate) fn fill(&self, seat: &mut ChannelSeat<T>) -> Progress<T>
+    pub(crate) fn fill(&self, seat: &mut ChannelSeat<T>) -> Progress
         requires object { seat.old.queue.seat.object ≡ self.now.queue.object }
         requires few { self.now.ends ≤ large_seats }
         requires inserting { IsInserting seat.old.queue }
@@ -139,7 +139,7 @@ impl<T: Drop> Channel<T> {
 
     /// Moves the item out of its cell, if it is the cell's turn. Then the cell is free for a sender, and the channel may be
     /// drained.
-    pub(crate) fn take_out(&self, seat: &mut ChannelSeat<T>) -> Progress<T>
+    pub(crate) fn take_out(&self, seat: &mut ChannelSeat<T>) -> Progress
         requires object { seat.old.queue.seat.object ≡ self.now.queue.object }
         requires few { self.now.ends ≤ large_seats }
         requires deleting { IsDeleting seat.old.queue }
@@ -161,7 +161,7 @@ impl<T: Drop> Channel<T> {
 
     /// Checks whether the channel is drained, after a claim that found no item. If it is, the call is over, and a look for
     /// the next receiver is owed.
-    pub(crate) fn check_empty(&self, seat: &mut ChannelSeat<T>) -> Progress<T>
+    pub(crate) fn check_empty(&self, seat: &mut ChannelSeat<T>) -> Progress
         requires object { seat.old.queue.seat.object ≡ self.now.queue.object }
         requires few { self.now.ends ≤ large_seats }
         requires may { MayClaim seat.old.queue }
@@ -180,7 +180,7 @@ impl<T: Drop> Channel<T> {
     }
 
     /// Shuts the queue. It comes before the looks: each sender that is woken finds the queue shut.
-    pub(crate) fn shut(&self, seat: &mut ChannelSeat<T>) -> Progress<T>
+    pub(crate) fn shut(&self, seat: &mut ChannelSeat<T>) -> Progress
         requires object { seat.old.queue.seat.object ≡ self.now.queue.object }
         requires few { self.now.ends ≤ large_seats }
         requires idle { IsIdle seat.old.queue }

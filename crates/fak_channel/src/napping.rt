@@ -29,7 +29,7 @@ impl<T> Wish<T> {
 
 impl<T: Drop> Channel<T> {
     /// Sets the own bit. It comes before the second test.
-    pub(crate) fn register(&self, seat: &mut ChannelSeat<T>, wish: Wish<T>) -> Progress<T>
+    pub(crate) fn register(&self, seat: &mut ChannelSeat<T>, wish: Wish<T>) -> Progress
         requires object { seat.old.queue.seat.object ≡ self.now.queue.object }
         requires may { MayClaim seat.old.queue }
         requires awake { IsAwake (account_of_seat seat.old.queue) }
@@ -42,7 +42,7 @@ impl<T: Drop> Channel<T> {
 
     /// The second test of a sender. If there is room, or the channel is closed, the own bit is to be cleared. Otherwise the
     /// sender sleeps.
-    pub(crate) fn test_room(&self, seat: &mut ChannelSeat<T>, item: T) -> Progress<T>
+    pub(crate) fn test_room(&self, seat: &mut ChannelSeat<T>, item: T) -> Progress
         requires object { seat.old.queue.seat.object ≡ self.now.queue.object }
         requires may { MayClaim seat.old.queue }
         requires stage { StageFor (Send item) Registered (account_of_seat seat.old.queue) }
@@ -65,7 +65,7 @@ impl<T: Drop> Channel<T> {
     }
 
     /// The second test of a receiver. If there is an item, the own bit is to be cleared.
-    pub(crate) fn test_item(&self, seat: &mut ChannelSeat<T>) -> Progress<T>
+    pub(crate) fn test_item(&self, seat: &mut ChannelSeat<T>) -> Progress
         requires object { seat.old.queue.seat.object ≡ self.now.queue.object }
         requires may { MayClaim seat.old.queue }
         requires stage { StagesAre Awake Registered (account_of_seat seat.old.queue) }
@@ -85,7 +85,7 @@ impl<T: Drop> Channel<T> {
 
     /// The rest of the second test of a receiver. If the channel is drained, the own bit is to be cleared. Otherwise the
     /// receiver sleeps.
-    pub(crate) fn test_drained(&self, seat: &mut ChannelSeat<T>) -> Progress<T>
+    pub(crate) fn test_drained(&self, seat: &mut ChannelSeat<T>) -> Progress
         requires object { seat.old.queue.seat.object ≡ self.now.queue.object }
         requires may { MayClaim seat.old.queue }
         requires stage { StagesAre Awake PastLower (account_of_seat seat.old.queue) }
@@ -101,7 +101,7 @@ impl<T: Drop> Channel<T> {
 
     /// Clears the own bit. If it was clear, another end has woken this one. Either way the call claims again, so a wake is
     /// not lost.
-    pub(crate) fn take_back(&self, seat: &mut ChannelSeat<T>, wish: Wish<T>) -> Progress<T>
+    pub(crate) fn take_back(&self, seat: &mut ChannelSeat<T>, wish: Wish<T>) -> Progress
         requires object { seat.old.queue.seat.object ≡ self.now.queue.object }
         requires may { MayClaim seat.old.queue }
         requires set { HasSet wish (account_of_seat seat.old.queue) }
@@ -113,7 +113,7 @@ impl<T: Drop> Channel<T> {
     }
 
     /// Looks at the own bit. If it is clear, another end has woken this one, and the call claims again.
-    pub(crate) fn sleep(&self, seat: &mut ChannelSeat<T>, wish: Wish<T>) -> Progress<T>
+    pub(crate) fn sleep(&self, seat: &mut ChannelSeat<T>, wish: Wish<T>) -> Progress
         requires object { seat.old.queue.seat.object ≡ self.now.queue.object }
         requires may { MayClaim seat.old.queue }
         requires stage { StageFor wish Asleep (account_of_seat seat.old.queue) }

@@ -39,7 +39,7 @@ impl<T> CallStanding<T> {
 
 impl<T: Drop> Channel<T> {
     /// One step of a look for a sleeper of this role: a load of a word of bits, or the deletion of a bit that was found set.
-    pub(crate) fn look(&self, seat: &mut ChannelSeat<T>, role: Role) -> Progress<T>
+    pub(crate) fn look(&self, seat: &mut ChannelSeat<T>, role: Role) -> Progress
         requires { CanLook self.now (looks_for role seat.old.standing) seat.old }
         ensures { LooksOnce self.now.ends self.now.queue.size role (looks_for role seat.old.standing) seat.old seat.new
             (looks_for role seat.old.standing).found (step_of result) }
@@ -81,7 +81,7 @@ impl<T: Drop> Channel<T> {
 
     /// Clears the bit of another end. If it was set, this wakes that end, and the look is done. Otherwise another end was
     /// faster, and the look is tried again.
-    fn clear_bit(&self, seat: &mut ChannelSeat<T>, role: Role, other: u64) -> Progress<T>
+    fn clear_bit(&self, seat: &mut ChannelSeat<T>, role: Role, other: u64) -> Progress
         requires can { CanLook self.now (looks_for role seat.old.standing) seat.old }
         requires other { other < large_seats }
         ensures { ClearsBit self.now.ends self.now.queue.size role (looks_for role seat.old.standing) seat.old seat.new other

@@ -7,13 +7,12 @@ pub(crate) struct Wake {
     pub(crate) number: u64,
 }
 
-/// The result of a step of a call, as `ChannelStep`.
-pub(crate) enum Progress<T> {
+/// The result of a step of a call that is not done, as `ChannelStep`. It has no item in it, so that no step moves one.
+pub(crate) enum Progress {
     GoesOn,
     NotYet,
     Sleeps,
     Wakes(Wake),
-    Ends(Outcome<T>),
 }
 
 /// Why the steps of a call stop.

@@ -30,12 +30,14 @@ impl<T: Drop> Channel<T> {
     {
         let backoff = Backoff::new();
         for _ in rt.forever() {
+            if seat.standing.is_done() {
+                return Stop::Ends(self.take_outcome(seat));
+            }
             match self.advance(seat) {
                 Progress::GoesOn => {}
                 Progress::NotYet => backoff.snooze(),
                 Progress::Sleeps => return Stop::Sleeps,
                 Progress::Wakes(wake) => self.wake(wake),
-                Progress::Ends(outcome) => return Stop::Ends(outcome),
             }
         }
         unreachable!()

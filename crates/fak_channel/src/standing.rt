@@ -158,8 +158,21 @@ impl<T> CallStanding<T> {
 }
 
 impl<T: Drop> CallStanding<T> {
-    ghost use Rattle.std.specs.Prelude.{◌≡◌};
-    ghost use Rattle.fak_channel.specs.Moves.{with_next};
+    ghost use Rattle.std.specs.Prelude.{◌≡◌, MatchBool};
+    ghost use Rattle.fak_channel.specs.Moves.{IsDone, with_next};
+
+    /// Whether nothing is owed, and only the outcome of the call is left to return.
+    pub(crate) fn is_done(&self) -> bool
+        ensures { MatchBool result (IsDone self.now) (¬ IsDone self.now) }
+    {
+        if self.senders.is_owed || self.receivers.is_owed || self.checks {
+            return false;
+        }
+        match self.next {
+            Next::Ending(_) => true,
+            _ => false,
+        }
+    }
 
     /// Sets what comes next. As a function of its own it would copy the item by SSE registers, which no step from C may write.
     #[inline(always)]

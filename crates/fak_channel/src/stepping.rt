@@ -1,14 +1,17 @@
 //! The steps of a call, of which none waits, and how a call is given up.
 
-ghost use Rattle.std.specs.Prelude.{◌≡◌, MatchOption};
+ghost use Rattle.std.specs.Prelude.{◌≡◌, ◌≢◌, MatchOption};
 ghost use Rattle.fak_channel.specs.ChannelSteps.{GivesUp, Runs, StandsAfter, Steps};
-ghost use Rattle.fak_channel.specs.Moves.{Moves, MovesNext, step_of};
+ghost use Rattle.fak_channel.specs.declared.standing.ChannelStep.TheVariants.{Ends};
+ghost use Rattle.fak_channel.specs.declared.standing.Next.TheVariants.{Ending};
+ghost use Rattle.fak_channel.specs.declared.standing.Outcome.{Outcome};
+ghost use Rattle.fak_channel.specs.Moves.{IsDone, Moves, MovesNext, step_of};
 ghost use Rattle.fak_channel.specs.Standings.{IsAsleep, IsBetweenCalls, IsInCall, IsStepSeatOf, OwesNone};
 
 use crate::channel::Channel;
 use crate::progress::{Progress, Wake};
 use crate::seat::ChannelSeat;
-use crate::standing::{ChannelStep, Next, Wish};
+use crate::standing::{ChannelStep, Next, Outcome, Wish};
 use fak_queue::Role;
 use std::mem;
 
@@ -16,10 +19,22 @@ use std::mem;
 pub const STEPS_AT_ONCE: u64 = 16;
 
 impl<T: Drop> Channel<T> {
-    /// Takes one more step of the open call. It does not wait. What the end owes to others comes first.
-    pub(crate) fn advance(&self, seat: &mut ChannelSeat<T>) -> Progress<T>
+    /// The outcome of a call that is done. No call is open then.
+    pub(crate) fn take_outcome(&self, seat: &mut ChannelSeat<T>) -> Outcome<T>
+        requires { IsDone seat.old.standing }
+        ensures { Moves self.now seat.old seat.new (Ends result) }
+    {
+        match mem::replace(&mut seat.standing.next, Next::Idle) {
+            Next::Ending(outcome) => outcome,
+            _ => unreachable!(),
+        }
+    }
+
+    /// Takes one more step of the open call, which is not done. It does not wait. What the end owes to others comes first.
+    pub(crate) fn advance(&self, seat: &mut ChannelSeat<T>) -> Progress
         requires stands { IsStepSeatOf self.now seat.old }
         requires in_call { IsInCall seat.old }
+        requires not_done { ¬ IsDone seat.old.standing }
         ensures { Moves self.now seat.old seat.new (step_of result) }
     {
         if seat.standing.senders.is_owed {
@@ -36,13 +51,14 @@ impl<T: Drop> Channel<T> {
     }
 
     /// The step by what comes next.
-    fn go_on(&self, seat: &mut ChannelSeat<T>) -> Progress<T>
+    fn go_on(&self, seat: &mut ChannelSeat<T>) -> Progress
         requires stands { IsStepSeatOf self.now seat.old }
         requires in_call { IsInCall seat.old }
+        requires not_ending { (o : Outcome T) → seat.old.standing.next ≢ Ending o }
         ensures { MovesNext self.now seat.old seat.new seat.old.standing.next (step_of result) }
     {
         match mem::replace(&mut seat.standing.next, Next::Idle) {
-            Next::Idle => unreachable!(),
+            Next::Idle | Next::Ending(_) => unreachable!(),
             Next::Claiming(Wish::Send(item)) => self.claim_room(seat, item),
             Next::Claiming(Wish::Receive) => self.claim_item(seat),
             Next::Inserting => self.fill(seat),
@@ -63,7 +79,6 @@ impl<T: Drop> Channel<T> {
                 Progress::GoesOn
             }
             Next::Shutting => self.shut(seat),
-            Next::Ending(outcome) => Progress::Ends(outcome),
         }
     }
 
@@ -76,12 +91,14 @@ impl<T: Drop> Channel<T> {
         ensures moves { Moves self.now seat.old seat.new result }
         ensures call { Steps self.now.queue.size seat.old seat.new result }
     {
+        if seat.standing.is_done() {
+            return ChannelStep::Ends(self.take_outcome(seat));
+        }
         match self.advance(seat) {
             Progress::GoesOn => ChannelStep::GoesOn,
             Progress::NotYet => ChannelStep::NotYet,
             Progress::Sleeps => ChannelStep::Sleeps,
             Progress::Wakes(Wake { number }) => ChannelStep::Wakes(number),
-            Progress::Ends(outcome) => ChannelStep::Ends(outcome),
         }
     }
 

@@ -28,11 +28,11 @@ returns-in-Sleeps-clause-tries g c = (sleeps_on c.args.self.now c.args.seat.now 
 pub returns-in-Sleeps-clause-call : goal.returns-in-Sleeps-clause-call
 returns-in-Sleeps-clause-call g c = let p = sleeps_on c.args.self.now c.args.seat.now c.loop.seat c.advance.new.seat c.loop.invariant c.in-Sleeps.ensures in (p.asleep, p.continues.since)
 
-pub returns-in-Ends-clause-stands : goal.returns-in-Ends-clause-stands
-returns-in-Ends-clause-stands g c = ended_stands c.args.self.now c.args.seat.now c.loop.seat c.advance.new.seat c.loop.invariant c.in-Ends.outcome c.in-Ends.ensures
+pub returns-then-is_done-clause-stands : goal.returns-then-is_done-clause-stands
+returns-then-is_done-clause-stands g c = ended_stands c.args.self.now c.args.seat.now c.loop.seat c.take_outcome.new.seat c.loop.invariant c.take_outcome.result c.take_outcome.ensures
 
-pub returns-in-Ends-clause-tries : goal.returns-in-Ends-clause-tries
-returns-in-Ends-clause-tries g c = ended_tries c.args.self.now c.args.seat.now c.loop.seat c.advance.new.seat c.loop.invariant c.in-Ends.outcome c.in-Ends.ensures
+pub returns-then-is_done-clause-tries : goal.returns-then-is_done-clause-tries
+returns-then-is_done-clause-tries g c = ended_tries c.args.self.now c.args.seat.now c.loop.seat c.take_outcome.new.seat c.loop.invariant c.take_outcome.result c.take_outcome.ensures
 
-pub returns-in-Ends-clause-call : goal.returns-in-Ends-clause-call
-returns-in-Ends-clause-call g c = (ended_idle c.args.self.now c.args.seat.now c.loop.seat c.advance.new.seat c.loop.invariant c.in-Ends.outcome c.in-Ends.ensures, ended_all c.args.self.now c.args.seat.now c.loop.seat c.advance.new.seat c.loop.invariant c.in-Ends.outcome c.in-Ends.ensures)
+pub returns-then-is_done-clause-call : goal.returns-then-is_done-clause-call
+returns-then-is_done-clause-call g c = (ended_idle c.args.self.now c.args.seat.now c.loop.seat c.take_outcome.new.seat c.loop.invariant c.take_outcome.result c.take_outcome.ensures, ended_all c.args.self.now c.args.seat.now c.loop.seat c.take_outcome.new.seat c.loop.invariant c.take_outcome.result c.take_outcome.ensures)

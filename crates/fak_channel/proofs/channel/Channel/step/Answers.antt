@@ -40,11 +40,11 @@ returns-in-Wakes-clause-after g c = (moved_follows c.args.self.now c.args.seat.n
 pub returns-in-Wakes-clause-call : goal.returns-in-Wakes-clause-call
 returns-in-Wakes-clause-call g c = moved_since c.args.self.now c.args.seat.now c.advance.new.seat c.requires.stands (Wakes c.in-Wakes.field-0.number) c.in-Wakes.ensures
 
-pub returns-in-Ends-clause-stands : goal.returns-in-Ends-clause-stands
-returns-in-Ends-clause-stands g c = moved_stands c.args.self.now c.args.seat.now c.advance.new.seat c.requires.stands (Ends c.in-Ends.outcome) c.in-Ends.ensures
+pub returns-then-is_done-clause-stands : goal.returns-then-is_done-clause-stands
+returns-then-is_done-clause-stands g c = moved_stands c.args.self.now c.args.seat.now c.take_outcome.new.seat c.requires.stands (Ends c.take_outcome.result) c.take_outcome.ensures
 
-pub returns-in-Ends-clause-after : goal.returns-in-Ends-clause-after
-returns-in-Ends-clause-after g c = (moved_follows c.args.self.now c.args.seat.now c.advance.new.seat (Ends c.in-Ends.outcome) c.requires.in_call c.in-Ends.ensures).after
+pub returns-then-is_done-clause-after : goal.returns-then-is_done-clause-after
+returns-then-is_done-clause-after g c = (moved_follows c.args.self.now c.args.seat.now c.take_outcome.new.seat (Ends c.take_outcome.result) c.requires.in_call c.take_outcome.ensures).after
 
-pub returns-in-Ends-clause-call : goal.returns-in-Ends-clause-call
-returns-in-Ends-clause-call g c = moved_since c.args.self.now c.args.seat.now c.advance.new.seat c.requires.stands (Ends c.in-Ends.outcome) c.in-Ends.ensures
+pub returns-then-is_done-clause-call : goal.returns-then-is_done-clause-call
+returns-then-is_done-clause-call g c = moved_since c.args.self.now c.args.seat.now c.take_outcome.new.seat c.requires.stands (Ends c.take_outcome.result) c.take_outcome.ensures
