@@ -202,6 +202,19 @@ int32_t fak_channel_leave(fak_channel_end *end) {
     return fak_channel_leave_with(end, NULL, NULL);
 }
 
+/* ---- Locks ---- */
+
+/* Takes a lock for a short time. The exchange must come before what the lock guards, and the store of give_lock must follow that: one
+ * caller at a time has the lock, and finds what the last one wrote. */
+static void take_lock(uint64_t *lock, const fak_channel_waiting *waiting) {
+    for (uint64_t rounds = 0; __atomic_exchange_n(lock, 1, __ATOMIC_ACQUIRE) != 0; rounds++)
+        pause_once(waiting, rounds);
+}
+
+static void give_lock(uint64_t *lock) {
+    __atomic_store_n(lock, 0, __ATOMIC_RELEASE);
+}
+
 /* ---- Lenders ---- */
 
 /* The end at which callers park while they wait for an end of this lender. It never sleeps in the channel itself. */
@@ -209,84 +222,52 @@ static const fak_channel_end *place_of(const fak_channel_lender *lender, const f
     return &shared->ends[lender == &shared->senders ? 0 : 1];
 }
 
-/* Wakes a caller that waits for an end, if there is one. The load must follow the step that made an end idle, or worn: a caller adds itself
- * to the sleepers before it looks for such an end, so one of the two sees the other. */
-static void wake_sleeper(fak_channel_shared *shared, fak_channel_lender *lender) {
-    const fak_channel_end *place = place_of(lender, shared);
-    if (__atomic_load_n(&lender->sleepers, __ATOMIC_SEQ_CST) != 0)
-        place->waiting->unpark(place->waiting->context, place->number);
+/* Parks until an end may have come back, and looks again. It does not park under the lock: it is counted as waiting, so a wake-up that
+ * comes before the park sets the token. */
+static int32_t wait_for_end(const fak_channel_end *place, fak_channel_lender *lender, uint64_t deadline, uint64_t *number) {
+    const fak_channel_waiting *waiting = place->waiting;
+    bool is_in_time = waiting->park(waiting->context, place->number, deadline), wakes = false;
+    int32_t code;
+    take_lock(&lender->lock, waiting);
+    code = fak_channel_lending_look_again(&lender->lending, is_in_time, number, &wakes);
+    give_lock(&lender->lock);
+    if (wakes)
+        waiting->unpark(waiting->context, place->number);
+    return code;
 }
 
-static bool has_idle(fak_channel_lender *lender) {
-    for (size_t i = 0; i <= (lender->count - 1) / 64; i++)
-        if (__atomic_load_n(&lender->idle[i], __ATOMIC_SEQ_CST) != 0)
-            return true;
-    return false;
-}
-
-/* Takes an idle end, or none. */
-static fak_channel_end *take_idle(fak_channel_lender *lender) {
-    for (size_t i = 0; i <= (lender->count - 1) / 64; i++) {
-        uint64_t idle = __atomic_load_n(&lender->idle[i], __ATOMIC_SEQ_CST);
-        while (idle != 0) {
-            uint64_t bit = idle & (~idle + 1);
-            /* One of the callers that clear a bit finds it set, and has the end. What the end's last caller wrote is there for it. */
-            idle = __atomic_fetch_and(&lender->idle[i], ~bit, __ATOMIC_SEQ_CST);
-            if ((idle & bit) != 0)
-                return &lender->ends[64 * i + (size_t)__builtin_ctzll(bit)];
-        }
-    }
-    return NULL;
-}
-
-static bool is_worn(const fak_channel_lender *lender) {
-    return __atomic_load_n(&lender->worn, __ATOMIC_SEQ_CST) == lender->count;
-}
-
-/* Sleeps until an end may be idle. False if the deadline has passed. */
-static bool wait_for_end(fak_channel_shared *shared, fak_channel_lender *lender, uint64_t deadline) {
-    const fak_channel_end *place = place_of(lender, shared);
-    bool is_in_time;
-    /* It must come before the looks: an end that comes back after these finds a sleeper, and wakes it (wake_sleeper). */
-    __atomic_fetch_add(&lender->sleepers, 1, __ATOMIC_SEQ_CST);
-    is_in_time = has_idle(lender) || is_worn(lender) || place->waiting->park(place->waiting->context, place->number, deadline);
-    /* It must follow the sleep. Meanwhile a wake-up may be one too many, and does no harm. */
-    __atomic_fetch_sub(&lender->sleepers, 1, __ATOMIC_SEQ_CST);
-    return is_in_time;
-}
-
-/* Lends an end of an open shared channel. A wake-up is for one sleeper, and two ends may come back before it wakes. So a caller that has
- * found an end wakes the next sleeper if there is another end. A caller that finds all ends worn wakes the next one, too. */
+/* Lends an end of a shared channel. */
 static int32_t lend(fak_channel_shared *shared, fak_channel_lender *lender, uint64_t deadline, fak_channel_end **end) {
-    bool is_in_time = deadline != NO_TIME;
-    if (lender->count == 0)
+    const fak_channel_end *place;
+    uint64_t number = 0;
+    int32_t code;
+    if (lender->ends == NULL)
         return FAK_C_NO_SEAT;
-    while ((*end = take_idle(lender)) == NULL) {
-        if (is_worn(lender)) {
-            wake_sleeper(shared, lender);
-            return FAK_C_WORN;
-        }
-        if (!is_in_time)
-            return FAK_C_GAVE_UP;
-        /* An end may have come back as the deadline passed, so one more look follows. */
-        is_in_time = wait_for_end(shared, lender, deadline);
-    }
-    if (has_idle(lender))
-        wake_sleeper(shared, lender);
-    return FAK_C_OK;
+    place = place_of(lender, shared);
+    take_lock(&lender->lock, place->waiting);
+    code = fak_channel_lending_borrow(&lender->lending, deadline != NO_TIME, &number);
+    give_lock(&lender->lock);
+    while (code == FAK_C_SLEEPS)
+        code = wait_for_end(place, lender, deadline, &number);
+    if (code == FAK_C_OK)
+        *end = &lender->ends[number];
+    return code;
 }
 
-static void take_back(fak_channel_shared *shared, fak_channel_lender *lender, const fak_channel_end *end) {
-    size_t index = (size_t)(end - lender->ends);
-    /* It must follow the call: another caller may have the end from here on. */
-    __atomic_fetch_or(&lender->idle[index / 64], UINT64_C(1) << index % 64, __ATOMIC_SEQ_CST);
-    wake_sleeper(shared, lender);
-}
-
-/* Keeps an end that has used up its stint from being lent again. */
-static void retire(fak_channel_shared *shared, fak_channel_lender *lender) {
-    __atomic_fetch_add(&lender->worn, 1, __ATOMIC_SEQ_CST);
-    wake_sleeper(shared, lender);
+/* Ends the loan of an end. It must follow the call: another caller may have the end from here on. An end that has used up its stint is not
+ * lent again. */
+static void end_loan(fak_channel_shared *shared, fak_channel_lender *lender, const fak_channel_end *end, bool is_worn) {
+    const fak_channel_end *place = place_of(lender, shared);
+    uint64_t number = (uint64_t)(end - lender->ends);
+    bool wakes = false;
+    take_lock(&lender->lock, place->waiting);
+    if (is_worn)
+        fak_channel_lending_retire(&lender->lending, number, &wakes);
+    else
+        fak_channel_lending_give_back(&lender->lending, number, &wakes);
+    give_lock(&lender->lock);
+    if (wakes)
+        place->waiting->unpark(place->waiting->context, place->number);
 }
 
 /* ---- The shared channel ---- */
@@ -300,11 +281,9 @@ static int32_t send_by_lent(fak_channel_shared *shared, const fak_channel_item *
         if (code != FAK_C_OK)
             return code == FAK_C_GAVE_UP && tries ? FAK_C_BUSY : code;
         code = tries ? fak_channel_try_send(end, item) : fak_channel_send_until(end, item, deadline);
-        if (code != FAK_C_WORN) {
-            take_back(shared, lender, end);
+        end_loan(shared, lender, end, code == FAK_C_WORN);
+        if (code != FAK_C_WORN)
             return code;
-        }
-        retire(shared, lender);
     }
 }
 
@@ -317,11 +296,9 @@ static int32_t receive_by_lent(fak_channel_shared *shared, fak_channel_item *ite
         if (code != FAK_C_OK)
             return code == FAK_C_GAVE_UP && tries ? FAK_C_BUSY : code;
         code = tries ? fak_channel_try_receive(end, item) : fak_channel_receive_until(end, item, deadline);
-        if (code != FAK_C_WORN) {
-            take_back(shared, lender, end);
+        end_loan(shared, lender, end, code == FAK_C_WORN);
+        if (code != FAK_C_WORN)
             return code;
-        }
-        retire(shared, lender);
     }
 }
 
@@ -349,20 +326,19 @@ int32_t fak_channel_shared_receive_until(fak_channel_shared *shared, fak_channel
     return receive_by_lent(shared, item, deadline, false);
 }
 
-/* Takes one of the first two ends for a call that never sleeps, or none if the shared channel was not opened. The exchange must come before
- * the call, and the store of give_own must follow it: the end is in one call at a time. */
-static fak_channel_end *take_own(fak_channel_shared *shared, uint64_t *flag) {
+/* Takes one of the first two ends for a call that never sleeps, or none if the shared channel was not opened. The end is in one call at a
+ * time. */
+static fak_channel_end *take_own(fak_channel_shared *shared, uint64_t *lock) {
     fak_channel_end *end;
     if (shared->ends == NULL)
         return NULL;
-    end = &shared->ends[flag == &shared->closes ? 0 : 1];
-    for (uint64_t rounds = 0; __atomic_exchange_n(flag, 1, __ATOMIC_ACQUIRE) != 0; rounds++)
-        pause_once(end->waiting, rounds);
+    end = &shared->ends[lock == &shared->closes ? 0 : 1];
+    take_lock(lock, end->waiting);
     return end;
 }
 
-static int32_t give_own(uint64_t *flag, int32_t code) {
-    __atomic_store_n(flag, 0, __ATOMIC_RELEASE);
+static int32_t give_own(uint64_t *lock, int32_t code) {
+    give_lock(lock);
     return code;
 }
 
@@ -381,15 +357,10 @@ int32_t fak_channel_shared_is_closed(fak_channel_shared *shared, bool *is_closed
     return end != NULL ? give_own(&shared->looks, fak_channel_is_closed(&end->seat, is_closed)) : FAK_C_NO_SEAT;
 }
 
-static void make_lender(fak_channel_lender *lender, fak_channel_end *ends, size_t count) {
+static int32_t make_lender(fak_channel_lender *lender, fak_channel_end *ends, size_t count) {
     lender->ends = ends;
-    lender->count = count;
-    lender->worn = 0;
-    lender->sleepers = 0;
-    for (size_t i = 0; i < FAK_C_MOST_SEATS / 64; i++) {
-        size_t left = count > 64 * i ? count - 64 * i : 0;
-        lender->idle[i] = left >= 64 ? UINT64_MAX : (UINT64_C(1) << left) - 1;
-    }
+    lender->lock = 0;
+    return fak_channel_lending_open(&lender->lending, count);
 }
 
 static bool is_number_of_ends(size_t senders, size_t receivers) {
@@ -407,16 +378,16 @@ int32_t fak_channel_shared_over(fak_channel_shared *shared, fak_channel_end *end
     shared->closes = 0;
     shared->looks = 0;
     make_lender(&shared->senders, ends + 2, senders);
-    make_lender(&shared->receivers, ends + 2 + senders, receivers);
-    return FAK_C_OK;
+    return make_lender(&shared->receivers, ends + 2 + senders, receivers);
 }
 
 /* Whether no end is lent, and no caller waits for one. */
 static bool is_at_rest(fak_channel_lender *lender) {
-    uint64_t idle = __atomic_load_n(&lender->worn, __ATOMIC_SEQ_CST);
-    for (size_t i = 0; i < lender->count; i++)
-        idle += __atomic_load_n(&lender->idle[i / 64], __ATOMIC_SEQ_CST) >> i % 64 & 1;
-    return idle == lender->count && __atomic_load_n(&lender->sleepers, __ATOMIC_SEQ_CST) == 0;
+    bool rests = false;
+    take_lock(&lender->lock, lender->ends->waiting);
+    fak_channel_lending_is_at_rest(&lender->lending, &rests);
+    give_lock(&lender->lock);
+    return rests;
 }
 
 /* The code of a leave of all n ends, each of which could refuse its own: all leave, or none. */
@@ -433,7 +404,7 @@ static int32_t may_all_leave(fak_channel_shared *shared, size_t n, bool drops) {
 
 int32_t fak_channel_shared_leave_with(
     fak_channel_shared *shared, void (*drop)(void *context, const fak_channel_item *item), void *context) {
-    size_t n = FAK_CHANNEL_SHARED_ENDS(shared->senders.count, shared->receivers.count);
+    size_t n = FAK_CHANNEL_SHARED_ENDS(shared->senders.lending.count, shared->receivers.lending.count);
     int32_t code = may_all_leave(shared, n, drop != NULL);
     /* The first two ends have called least, so one of them drops what is left. */
     for (size_t i = n; i-- > 0 && code == FAK_C_OK;)

@@ -6,8 +6,9 @@
  * - "A shared channel": any thread calls, and borrows an end for the call.
  * - "Steps": no call waits. Use them in an interrupt handler, or in a runtime that keeps its waiting tasks in lists of its own.
  *
- * The steps are in libfak_c.a, proved. Ends and the shared channel are C over these steps, in fak_channel.c, and tested. Compile it with
- * your program, or link libfak_channel.a of an installed prefix. Under ThreadSanitizer compile it with the program.
+ * The steps are in libfak_c.a, proved, and so is which end a caller borrows ("Lending"). Ends and the shared channel are C over these, in
+ * fak_channel.c, and tested. Compile it with your program, or link libfak_channel.a of an installed prefix. Under ThreadSanitizer compile
+ * it with the program.
  *
  * What C owes, besides what fak_c.h says:
  * - An end starts as {0} (in C++ as {}), is never copied, and is written only by these calls. fak_channel_move moves it.
@@ -184,14 +185,21 @@ int32_t fak_channel_move(fak_channel_end *end, fak_channel_end *to);
  * Two ends more serve closes and looks. */
 #define FAK_CHANNEL_SHARED_ENDS(senders, receivers) ((senders) + (receivers) + 2)
 
-/* The ends of one side. Written only by these calls. */
+/* Which ends of one side callers have borrowed. Written only by the calls of "Lending". */
+typedef struct fak_channel_lending {
+    uint64_t count;   /* how many ends there are */
+    uint64_t worn;    /* how many have used up their stint */
+    uint64_t waiting; /* how many callers wait for an end */
+    uint64_t woken;   /* 1 if one of these was woken, and none has looked again since then */
+    uint64_t idle[FAK_C_MOST_SEATS / 64]; /* a bit for each end that nobody has borrowed */
+} fak_channel_lending;
+
+/* The ends of one side, and the lock of what is lent. Written only by these calls. */
 typedef struct fak_channel_lender {
     fak_channel_end *ends;
-    uint64_t count;    /* how many there are */
-    uint64_t worn;     /* how many have used up their stint */
-    uint64_t sleepers; /* how many callers wait for an end */
-    uint64_t unused[4];
-    uint64_t idle[FAK_C_MOST_SEATS / 64]; /* a bit for each end that nobody has borrowed */
+    uint64_t lock; /* 1 during a call of "Lending" */
+    fak_channel_lending lending;
+    uint64_t unused[2];
 } fak_channel_lender;
 
 /* It starts as zeros, and each of its calls returns FAK_C_NO_SEAT then. While it is shared, neither it nor its ends are copied or moved. */
@@ -310,6 +318,44 @@ int32_t fak_channel_is_closed(fak_c_seat *end, bool *is_closed);
  *
  * FAK_C_OK or FAK_C_NO_SEAT. */
 int32_t fak_channel_state(fak_c_seat *end, uint64_t *number, uint32_t *state, uint64_t *left);
+
+/* ---- Lending ----
+ *
+ * Who borrows which end of a side, and who waits for one, as plain words. A shared channel makes these calls. No call waits, and none
+ * touches an end. So a runtime may lend by them what it likes, to callers that wait by means of its own.
+ *
+ * What C owes: each call is made under a lock of the lending, which no caller holds while it parks or wakes another. A caller that waits
+ * parks, and then looks again. If a call writes that `wakes` is true, one of those that are parked is woken after the call, or the next one
+ * to park. It does no harm if a caller looks again without having been woken.
+ *
+ * Proved: whenever an end is idle, or all are worn, nobody waits, or a caller was woken and has not looked again yet. An end that is lent
+ * was idle, and is not idle until it is given back. */
+
+/* Opens a lending of `count` ends (1 to 1,024), which are numbered from 0. All are idle, and nobody waits.
+ *
+ * FAK_C_OK, or FAK_C_BAD_LIMIT, and nothing changes. */
+int32_t fak_channel_lending_open(fak_channel_lending *lending, uint64_t count);
+
+/* Borrows an idle end, and writes its number. If none is idle and the caller may wait, it is counted as waiting.
+ *
+ * FAK_C_OK; FAK_C_WORN if all ends are worn; FAK_C_SLEEPS if the caller waits now, else FAK_C_GAVE_UP. */
+int32_t fak_channel_lending_borrow(fak_channel_lending *lending, bool may_wait, uint64_t *number);
+
+/* The same for a caller that waits, after each park. It waits on only with FAK_C_SLEEPS. `wakes` is always written.
+ *
+ * FAK_C_OK; FAK_C_WORN if all ends are worn; FAK_C_SLEEPS if the caller is in time, else FAK_C_GAVE_UP. */
+int32_t fak_channel_lending_look_again(fak_channel_lending *lending, bool in_time, uint64_t *number, bool *wakes);
+
+/* Gives back the end of this number, which is idle then; or retires it: it is worn, and nobody borrows it again.
+ *
+ * FAK_C_OK; FAK_C_WRONG_STATE if the end is idle, or there is none of this number: nothing changes then, and nothing is written. */
+int32_t fak_channel_lending_give_back(fak_channel_lending *lending, uint64_t number, bool *wakes);
+int32_t fak_channel_lending_retire(fak_channel_lending *lending, uint64_t number, bool *wakes);
+
+/* Writes whether each end is idle or worn, and nobody waits.
+ *
+ * FAK_C_OK. */
+int32_t fak_channel_lending_is_at_rest(const fak_channel_lending *lending, bool *is_at_rest);
 
 #ifdef __cplusplus
 }

@@ -8,6 +8,7 @@ mod bundle;
 mod channel;
 mod credit;
 mod files;
+mod lending;
 mod queue;
 mod room;
 mod semaphore;

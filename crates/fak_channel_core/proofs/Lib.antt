@@ -9,13 +9,3 @@ pub mod SleeperLog
 pub mod SleeperDuties
 pub mod SleeperProgress
 pub mod SleeperCases
-pub mod LenderSums
-pub mod LenderKept
-pub mod LenderSteps
-pub mod LenderEnds
-pub mod LenderSigns
-pub mod LenderReached
-pub mod LenderLog
-pub mod LenderRefusals
-pub mod LenderProgress
-pub mod LenderHistory

@@ -1,4 +1,4 @@
--- What is left to do for a duty, at either side of a channel whose sleepers are bits or in a lender: a duty that does not rest
+-- What is left to do for a duty, at either side of a channel whose sleepers are bits: a duty that does not rest
 -- has a sign that leaves it less.
 use Rattle.std.specs.Prelude.{◌≡◌, ◌≢◌, ◌⊎◌, ℕ, suc, zero, ◌+◌, ◌*◌, ◌/◌, ◌==◌, ◌<◌, ◌≤◌, cond, Bool, true, false, not, ◌||◌}
 use Rattle.fak_model.proofs.Leading.{sum_one, sum_le}

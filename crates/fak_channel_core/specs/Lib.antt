@@ -3,8 +3,3 @@ pub mod SleeperMoves
 pub mod SleeperSchedule
 pub mod SleeperProgress
 pub mod SleeperExamples
-pub mod LenderMoves
-pub mod LenderSchedule
-pub mod LenderHistory
-pub mod LenderProgress
-pub mod LenderExamples

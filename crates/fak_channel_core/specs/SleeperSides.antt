@@ -1,4 +1,4 @@
--- One side of a channel whose sleepers are bits, its senders or its receivers; or the callers of a lender. An end that has to
+-- One side of a channel whose sleepers are bits, its senders or its receivers. An end that has to
 -- wait sets its bit and tests again before it sleeps. An end that makes room or an item looks for a set bit, and clears it:
 -- that wakes its end.
 use Rattle.std.specs.Prelude.{ℕ, suc, zero, ◌+◌, ◌*◌, ◌/◌, ◌==◌, nat_eq, Bool, true, false, not, ◌&&◌, ◌||◌, if◌then◌else◌}

@@ -1,4 +1,3 @@
 //! Callers of the laws: each cites one law and concludes something in other words.
 
-pub mod lenders;
 pub mod sleepers;

@@ -1,4 +1,4 @@
-//! The algorithm of a channel whose threads sleep, and of a lender of its ends, over plain data, one atomic step at a time.
+//! The algorithm of a channel whose threads sleep, over plain data, one atomic step at a time.
 #![tactic(auto)]
 
 pub mod callers;

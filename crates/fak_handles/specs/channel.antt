@@ -1,2 +1,3 @@
 -- Ends of channels.
 pub mod Calls
+pub mod Lending

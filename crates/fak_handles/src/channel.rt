@@ -1,6 +1,7 @@
-//! Ends of channels.
+//! Ends of channels, and which of them are lent.
 
 mod calls;
 pub mod codes;
+pub mod lending;
 pub mod opening;
 pub mod seat;

@@ -3,6 +3,7 @@
 #![tactic(auto)]
 
 pub mod bundle;
+pub mod callers;
 pub mod channel;
 pub mod code;
 pub mod credit;

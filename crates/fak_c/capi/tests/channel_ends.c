@@ -163,6 +163,19 @@ static void all_ends_leave_or_none(void) {
     }
 }
 
+/* Borrows the only end of a lender, or the first of several, as if a thread had it. */
+static void borrow_first(fak_channel_lender *lender) {
+    uint64_t number = 99;
+    CHECK(fak_channel_lending_borrow(&lender->lending, false, &number) == FAK_C_OK && number == 0);
+}
+
+/* Gives it back, and says whether a caller is to be woken. */
+static bool give_back_first(fak_channel_lender *lender) {
+    bool wakes = false;
+    CHECK(fak_channel_lending_give_back(&lender->lending, 0, &wakes) == FAK_C_OK);
+    return wakes;
+}
+
 /* Ends that are lent are not lent twice, and not given up. */
 static void ends_are_lent_once(void) {
     fak_channel_end ends[SHARED] = {0};
@@ -170,26 +183,35 @@ static void ends_are_lent_once(void) {
     fak_channel_item item = {{0}};
     CHECK(fak_channel_open_ends(ends, SHARED, 2, STINT) == FAK_C_OK);
     CHECK(fak_channel_shared_over(&shared, ends, SENDERS, RECEIVERS) == FAK_C_OK);
-    shared.receivers.idle[0] = 0; /* as if a thread had the only end */
+    borrow_first(&shared.receivers);
     CHECK(fak_channel_shared_try_receive(&shared, &item) == FAK_C_BUSY && fak_channel_shared_try_send(&shared, &seven) == FAK_C_OK);
     CHECK(fak_channel_shared_receive_until(&shared, &item, fak_channel_deadline(A_WHILE)) == FAK_C_GAVE_UP);
-    CHECK(fak_channel_shared_leave(&shared) == FAK_C_WRONG_STATE && ends[0].seat.at != NULL);
-    shared.receivers.idle[0] = 1;
+    CHECK(fak_channel_shared_leave(&shared) == FAK_C_WRONG_STATE && ends[0].seat.at != NULL && !give_back_first(&shared.receivers));
     CHECK(fak_channel_shared_receive(&shared, &item) == FAK_C_OK && fak_channel_shared_leave(&shared) == FAK_C_OK);
 }
 
-static fak_channel_shared *lending;
+static fak_channel_lender *parked_lender;
 
-/* While a caller waits for the only end of receivers, it comes back. While a receive sleeps, nobody else has its end. */
+/* While a caller waits for the only end of receivers, it comes back, after a wake-up for nothing. While a receive sleeps, nobody else has
+ * its end. */
 static bool gives_back(void *context, uint64_t number, uint64_t deadline) {
-    CHECK(context == &parks && deadline != 0 && lending->receivers.idle[0] == 0 && lending->receivers.sleepers == (number == 1));
+    CHECK(context == &parks && deadline != 0 && parked_lender->lock == 0 && parked_lender->lending.idle[0] == 0
+        && parked_lender->lending.waiting == (number == 1));
     parked_at = number;
-    if (number == 1)
-        lending->receivers.idle[0] = 1;
+    if (number == 1 && ++parks % 2 == 0)
+        CHECK(give_back_first(parked_lender));
     return number == 1;
 }
 
-/* A caller that waits for an end parks at the first two numbers, and is woken when an end comes back, and when there is another. */
+/* A caller that waited no longer does, and has the first end for a moment. */
+static void stop_waiting(fak_channel_lender *lender) {
+    uint64_t number = 99;
+    bool wakes = true;
+    CHECK(fak_channel_lending_look_again(&lender->lending, true, &number, &wakes) == FAK_C_OK && number == 0 && !wakes);
+    CHECK(!give_back_first(lender));
+}
+
+/* A caller that waits for an end parks at the first two numbers, and is woken when an end comes back. */
 static void lenders_call_own_functions(void) {
     fak_channel_waiting waiting = {gives_back, notes, NULL, &parks, 0, SHARED, 0};
     fak_c_seat seats[SHARED] = {0};
@@ -200,19 +222,19 @@ static void lenders_call_own_functions(void) {
     for (int i = 0; i < SHARED; i++)
         CHECK(fak_channel_end_of(&seats[i], &waiting, &ends[i]) == FAK_C_OK);
     CHECK(fak_channel_shared_over(&shared, ends, SENDERS, RECEIVERS) == FAK_C_OK);
-    lending = &shared;
-    wakes = 0;
+    parked_lender = &shared.receivers;
+    wakes = parks = 0;
     CHECK(fak_channel_shared_receive_until(&shared, &item, 5) == FAK_C_GAVE_UP && parked_at == SHARED - 1);
     CHECK(fak_channel_shared_send(&shared, &seven) == FAK_C_OK && wakes == 0);
-    shared.receivers.idle[0] = 0;
-    CHECK(fak_channel_shared_receive(&shared, &item) == FAK_C_OK && parked_at == 1 && wakes == 0);
-    shared.receivers.sleepers = 1; /* as if another thread waited */
+    borrow_first(&shared.receivers);
+    CHECK(fak_channel_shared_receive(&shared, &item) == FAK_C_OK && parked_at == 1 && parks == 2 && wakes == 0);
+    shared.receivers.lending.waiting = 1; /* as if another thread waited */
     CHECK(fak_channel_shared_try_receive(&shared, &item) == FAK_C_EMPTY && wakes == 1 && woken == 1);
     CHECK(fak_channel_shared_leave(&shared) == FAK_C_WRONG_STATE);
-    shared.receivers.sleepers = 0;
-    shared.senders.sleepers = 1;
-    CHECK(fak_channel_shared_try_send(&shared, &seven) == FAK_C_OK && wakes == 3 && woken == 0);
-    shared.senders.sleepers = 0;
+    stop_waiting(&shared.receivers);
+    shared.senders.lending.waiting = 1;
+    CHECK(fak_channel_shared_try_send(&shared, &seven) == FAK_C_OK && wakes == 2 && woken == 0);
+    stop_waiting(&shared.senders);
     CHECK(fak_channel_shared_leave(&shared) == FAK_C_OK);
 }
 

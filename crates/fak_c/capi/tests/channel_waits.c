@@ -457,14 +457,22 @@ static void *send_each_turn(void *argument) {
     return NULL;
 }
 
-/* Two callers share the last end of these, as if other threads had borrowed the others. */
+/* Borrows the first of these ends, all but the last, as if other threads had them; or gives them back. */
+static void lend_others(fak_channel_lender *lender, bool borrows) {
+    uint64_t number = 0;
+    bool wakes = false;
+    for (uint64_t i = 0; i + 1 < lender->lending.count; i++)
+        CHECK((borrows ? fak_channel_lending_borrow(&lender->lending, false, &number)
+                       : fak_channel_lending_give_back(&lender->lending, i, &wakes)) == FAK_C_OK && !wakes);
+}
+
+/* Two callers share the last end of these. */
 static void take_turns(size_t senders, uint64_t rounds) {
     static fak_channel_end ends[FAK_CHANNEL_SHARED_ENDS(65, 1)];
     fak_channel_shared shared = {0};
     turner turners[2];
     CHECK(fak_channel_shared_open(&shared, ends, senders, 1, CELLS, LONG_STINT) == FAK_C_OK);
-    if (senders > 64)
-        shared.senders.idle[0] = 0;
+    lend_others(&shared.senders, true);
     atomic_store(&turn, 0);
     atomic_store(&done, 0);
     for (int i = 0; i < 2; i++) {
@@ -482,8 +490,7 @@ static void take_turns(size_t senders, uint64_t rounds) {
     }
     for (int i = 0; i < 2; i++)
         CHECK(pthread_join(turners[i].thread, NULL) == 0);
-    if (senders > 64)
-        shared.senders.idle[0] = UINT64_MAX;
+    lend_others(&shared.senders, false);
     CHECK(fak_channel_shared_leave(&shared) == FAK_C_OK);
 }
 

@@ -125,13 +125,24 @@ static void a_used_up_stint_refuses(size_t workers, size_t waiting) {
     CHECK(added > FAK_POOL_CALLS / 200 && atomic_load(&done) == added);
 }
 
+/* Borrows all ends of a lender, or gives them back. No caller waits. */
+static void lend_all(fak_channel_lender *lender, bool borrows) {
+    uint64_t number = 0;
+    bool wakes = false;
+    while (__atomic_exchange_n(&lender->lock, 1, __ATOMIC_ACQUIRE) != 0)
+        continue;
+    CHECK(lender->lending.waiting == 0);
+    for (uint64_t i = 0; i < lender->lending.count; i++)
+        CHECK((borrows ? fak_channel_lending_borrow(&lender->lending, false, &number)
+                       : fak_channel_lending_give_back(&lender->lending, i, &wakes)) == FAK_C_OK && !wakes);
+    __atomic_store_n(&lender->lock, 0, __ATOMIC_RELEASE);
+}
+
 /* Gives the ends back that no caller had, unless one sleeps meanwhile. */
 static void *give_ends_back(void *argument) {
-    fak_channel_lender *senders = &((fak_pool *)argument)->jobs.shared.senders;
     for (int i = 0; i < 20; i++)
         rest();
-    CHECK(__atomic_load_n(&senders->sleepers, __ATOMIC_SEQ_CST) == 0);
-    __atomic_store_n(&senders->idle[0], (1 << CALLERS) - 1, __ATOMIC_SEQ_CST);
+    lend_all(&((fak_pool *)argument)->jobs.shared.senders, false);
     return NULL;
 }
 
@@ -141,7 +152,7 @@ static void a_try_never_sleeps(size_t waiting) {
     pthread_t thread;
     CHECK(pool != NULL);
     atomic_store(&done, 0);
-    __atomic_store_n(&pool->jobs.shared.senders.idle[0], 0, __ATOMIC_SEQ_CST);
+    lend_all(&pool->jobs.shared.senders, true);
     CHECK(pthread_create(&thread, NULL, give_ends_back, pool) == 0);
     CHECK(fak_pool_try_add(pool, count_one, NULL) && pthread_join(thread, NULL) == 0);
     fak_pool_free(pool);

@@ -1,9 +1,10 @@
-/* The calls of fak_channel.h by their names in rows: a line for each. A letter is a handle of a seat, an end, or a shared channel, by the
- * call. Calls by steps of a letter that has an end are those of the end's seat. One shared channel has ends at a time. */
+/* The calls of fak_channel.h by their names in rows: a line for each. A letter is a handle of a seat, an end, a shared channel or a
+ * lending, by the call. Calls by steps of a letter that has an end are those of the end's seat. One shared channel has ends at a time. */
 #include "rows.h"
 
 static fak_channel_end ends[LOWER_HANDLES], shared_ends[LOWER_HANDLES];
 static fak_channel_shared shared[26];
+static fak_channel_lending lendings[26];
 
 static fak_c_seat *seat_of(const row *self) {
     bool is_end = self->index < LOWER_HANDLES && ends[self->index].seat.at != NULL;
@@ -85,19 +86,30 @@ static uint64_t *dropped(row *self) {
     CALL(any, channel_shared_leave, fak_channel_shared_leave(&shared[self->index])) \
     CALL(any, channel_shared_leave_with, fak_channel_shared_leave_with(&shared[self->index], note, dropped(self)))
 
+#define LENDING_CALLS(CALL) \
+    CALL(any, channel_lending_open, fak_channel_lending_open(&lendings[self->index], self->in[0])) \
+    CALL(any, channel_lending_borrow, fak_channel_lending_borrow(&lendings[self->index], self->in[0] == 1, word_at(self, 0))) \
+    CALL(any, channel_lending_look_again, fak_channel_lending_look_again(&lendings[self->index], self->in[0] == 1, word_at(self, 0), \
+        truth_at(self, 1))) \
+    CALL(any, channel_lending_give_back, fak_channel_lending_give_back(&lendings[self->index], self->in[0], truth_at(self, 0))) \
+    CALL(any, channel_lending_retire, fak_channel_lending_retire(&lendings[self->index], self->in[0], truth_at(self, 0))) \
+    CALL(any, channel_lending_is_at_rest, fak_channel_lending_is_at_rest(&lendings[self->index], truth_at(self, 0)))
+
 STEP_CALLS(DEFINE_CALL)
 END_CALLS(DEFINE_CALL)
 SHARED_CALLS(DEFINE_CALL)
+LENDING_CALLS(DEFINE_CALL)
 
 const bool is_for_c = true;
 
 const named_call calls_of_channels[] = {
-    STEP_CALLS(LIST_CALL) END_CALLS(LIST_CALL) SHARED_CALLS(LIST_CALL){NULL, NULL, NULL}};
+    STEP_CALLS(LIST_CALL) END_CALLS(LIST_CALL) SHARED_CALLS(LIST_CALL) LENDING_CALLS(LIST_CALL){NULL, NULL, NULL}};
 
 bool others_leave(void) {
     bool have_left = true;
     for (size_t i = 0; i < 26; i++) {
         bool is_open = shared[i].ends != NULL && shared[i].ends[0].seat.at != NULL;
+        lendings[i] = (fak_channel_lending){0};
         have_left = (!is_open || fak_channel_shared_leave(&shared[i]) == FAK_C_OK) && have_left;
     }
     for (size_t i = 0; i < LOWER_HANDLES; i++)
