@@ -14,9 +14,9 @@ ghost use Rattle.fak_model.specs.declared.note.Sign.TheVariants.{FindsBit, IsWok
 ghost use Rattle.fak_channel_core.specs.SleeperSides.{Asleep};
 
 use crate::laws::sleepers::{
-    a_channel_never_locks_up, a_note_of_a_bit_is_true, a_queue_goes_its_own_way, a_woken_end_goes_on,
-    an_end_knows_what_it_owes, every_call_of_a_channel_ends, nobody_sleeps_beside_work,
-    the_queue_of_a_channel_is_reached,
+    a_channel_never_locks_up, a_note_of_a_bit_is_true, a_queue_goes_its_own_way,
+    a_woken_end_goes_on, an_end_knows_what_it_owes, every_call_of_a_channel_ends,
+    nobody_sleeps_beside_work, the_queue_of_a_channel_is_reached,
 };
 use fak_core::laws::queue::every_queue_schedule_is_legal;
 
