@@ -1,8 +1,12 @@
 //! The channels that are measured, by one interface.
 
+use fak_seats::{Fault, Seat, Step};
+use std::cell::RefCell;
 use std::collections::VecDeque;
+use std::sync::atomic::{AtomicUsize, Ordering::SeqCst};
 use std::sync::mpsc;
 use std::sync::{Arc, Condvar, Mutex};
+use std::thread::yield_now;
 
 /// A handle that sends. Both calls sleep while they have to wait.
 pub trait Sends: Send {
@@ -36,6 +40,10 @@ pub fn peers() -> Vec<Peer> {
         Peer {
             name: "library, 2 ends for all",
             open: |size, senders, receivers| open_library(size, senders, receivers, 2),
+        },
+        Peer {
+            name: "queue, callers yield",
+            open: open_queue,
         },
         #[cfg(feature = "crossbeam")]
         Peer { name: "crossbeam-channel", open: open_crossbeam },
@@ -72,6 +80,73 @@ fn open_library(size: usize, senders: usize, receivers: usize, ends: usize) -> (
     (
         handles(sender, senders).map(|sender| Box::new(LibrarySender(sender)) as Box<dyn Sends>).collect(),
         handles(receiver, receivers).map(|receiver| Box::new(LibraryReceiver(receiver)) as Box<dyn Receives>).collect(),
+    )
+}
+
+// ---- the queue of this library, whose callers try again until they are served. None of them sleeps
+
+struct QueueSender {
+    seat: RefCell<Seat>,
+    senders: Arc<AtomicUsize>,
+}
+
+struct QueueReceiver(RefCell<Seat>);
+
+impl Sends for QueueSender {
+    fn send(&self, item: u64) -> bool {
+        let mut seat = self.seat.borrow_mut();
+        let mut inserted = loop {
+            match seat.insert(item) {
+                Ok(Step::Done(_)) => return true,
+                Ok(Step::NotYet) => break Step::NotYet,
+                Err(Fault::Full) => yield_now(),
+                Err(_) => return false,
+            }
+        };
+        while inserted == Step::NotYet {
+            yield_now();
+            inserted = seat.try_fill().expect("a claimed insertion is not refused");
+        }
+        true
+    }
+}
+
+impl Receives for QueueReceiver {
+    fn recv(&self) -> Option<u64> {
+        let mut seat = self.0.borrow_mut();
+        loop {
+            match seat.delete() {
+                Ok(Step::Done(item)) => return Some(item),
+                Ok(Step::NotYet) => break,
+                Err(_) if seat.is_drained() => return None,
+                Err(_) => yield_now(),
+            }
+        }
+        loop {
+            if let Step::Done(item) = seat.try_take().expect("a claimed deletion is not refused") {
+                return Some(item);
+            }
+            yield_now();
+        }
+    }
+}
+
+impl Drop for QueueSender {
+    fn drop(&mut self) {
+        if self.senders.fetch_sub(1, SeqCst) == 1 {
+            self.seat.borrow_mut().shut().expect("the last sender has no open call");
+        }
+    }
+}
+
+fn open_queue(size: usize, senders: usize, receivers: usize) -> (Senders, Receivers) {
+    let stint = fak_seats::limits::MOST_CALLS / 1_024;
+    let mut seats = Seat::open_vec(senders + receivers, size as u64, stint).expect("the numbers are in range").into_iter();
+    let left = Arc::new(AtomicUsize::new(senders));
+    let sender = |seat| Box::new(QueueSender { seat: RefCell::new(seat), senders: Arc::clone(&left) }) as Box<dyn Sends>;
+    (
+        seats.by_ref().take(senders).map(sender).collect(),
+        seats.map(|seat| Box::new(QueueReceiver(RefCell::new(seat))) as Box<dyn Receives>).collect(),
     )
 }
 
