@@ -38,25 +38,34 @@ fn lend_two(rt: &(impl Print + Eprint + AllocGlobal + Wait), ends: Vec<End<'_, u
     lent == 2
 }
 
-/// Opens a channel, makes a list of its ends, and has two of them lent. If there is no memory for the list, the seats are dropped, and
-/// a second channel is opened.
-fn open_ends(rt: &(impl Print + Eprint + AllocGlobal + Wait)) -> bool {
-    for _ in 0..2 {
-        let (channel, seats) = try_twice!(
-            rt,
-            "Channel::open",
-            Channel::<u64>::open(rt.alloc(), 8, 3, 100)
-        );
-        match channel.ends(rt.alloc(), seats) {
-            Ok(ends) => {
-                show_count(rt, "Channel::open", ends.len(), "seats");
-                show_count(rt, "Channel::ends", ends.len(), "ends");
-                return lend_two(rt, ends);
-            }
-            Err(fault) => tell_fault(rt, "Channel::ends", &fault),
+/// Opens a channel, makes a list of its ends, and has two of them lent. `None` if there is no memory for the channel or for the list.
+fn open_once(rt: &(impl Print + Eprint + AllocGlobal + Wait)) -> Option<bool> {
+    let (channel, seats) = match Channel::<u64>::open(rt.alloc(), 8, 3, 100) {
+        Ok(opened) => opened,
+        Err(fault) => {
+            tell_fault(rt, "Channel::open", &fault);
+            return None;
+        }
+    };
+    match channel.ends(rt.alloc(), seats) {
+        Ok(ends) => {
+            show_count(rt, "Channel::open", ends.len(), "seats");
+            show_count(rt, "Channel::ends", ends.len(), "ends");
+            Some(lend_two(rt, ends))
+        }
+        Err(fault) => {
+            tell_fault(rt, "Channel::ends", &fault);
+            None
         }
     }
-    false
+}
+
+/// Does so a second time if there was no memory.
+fn open_ends(rt: &(impl Print + Eprint + AllocGlobal + Wait)) -> bool {
+    match open_once(rt) {
+        Some(are_lent) => are_lent,
+        None => open_once(rt).unwrap_or(false),
+    }
 }
 
 /// Opens channels, and hands out their ends.

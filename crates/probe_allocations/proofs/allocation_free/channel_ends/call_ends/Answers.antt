@@ -1,0 +1,9 @@
+use Rattle.fak_channel.specs.Standings.{IsSeatOf}
+use Rattle.probe_allocations.proofs.Pops.{others, top}
+use Rattle.probe_allocations.proofs.allocation_free.channel_ends.call_ends.Goals as goal
+
+pub new-first-requires : goal.new-first-requires
+new-first-requires g c = top (IsSeatOf c.in-Ok.channel) _ _ _ c.pop.ensures.items c.in-Ok.ensures.4 c.in-Some.seat c.in-Some.is
+
+pub new-second-requires : goal.new-second-requires
+new-second-requires g c = top (IsSeatOf c.in-Ok.channel) _ _ _ c.pop-2.ensures.items (others (IsSeatOf c.in-Ok.channel) _ _ _ c.pop.ensures.items c.in-Ok.ensures.4) c.in-Some-pop.seat c.in-Some-pop.is
