@@ -3,9 +3,12 @@
 use std::hint::spin_loop;
 use std::thread::yield_now;
 
-// A round of spinning is twice as long as the one before.
-const SPINS: u32 = 6;
-const ROUNDS: u32 = 10;
+// The rounds that spin, each for less than a microsecond, and the spins of each. A thread looks again after each round, so a short round
+// finds a wake-up soon.
+const SPINNING: u32 = 7;
+const SPINS: u32 = 8;
+// After this number of rounds a thread should sleep.
+const ROUNDS: u32 = 20;
 
 /// Spins for some rounds, and then yields.
 pub(super) struct Pause {
@@ -19,12 +22,12 @@ impl Pause {
 
     /// Whether it has gone on for so long that a thread should sleep, if it can.
     pub(super) fn is_long(&self) -> bool {
-        self.round > ROUNDS
+        self.round >= ROUNDS
     }
 
     pub(super) fn pause(&mut self) {
-        if self.round <= SPINS {
-            (0..1 << self.round).for_each(|_| spin_loop());
+        if self.round < SPINNING {
+            (0..SPINS).for_each(|_| spin_loop());
         } else {
             yield_now();
         }

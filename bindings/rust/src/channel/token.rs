@@ -69,8 +69,9 @@ impl Token {
         self.sleep(until)
     }
 
+    // The load keeps a look at a token that is clear from taking its line of the cache.
     fn take(&self) -> bool {
-        self.state.compare_exchange(SET, CLEAR, SeqCst, SeqCst).is_ok()
+        self.state.load(SeqCst) == SET && self.state.compare_exchange(SET, CLEAR, SeqCst, SeqCst).is_ok()
     }
 
     fn sleep(&self, until: Option<Instant>) -> bool {
