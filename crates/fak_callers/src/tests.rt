@@ -8,3 +8,4 @@ mod pipelines;
 mod queues;
 mod rooms;
 mod semaphores;
+mod sleepers;

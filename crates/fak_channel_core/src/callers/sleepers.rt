@@ -102,13 +102,22 @@ pub fn a_cleared_bit_ends_a_sleep<T>()
     a_woken_end_goes_on::<T>();
 }
 
+/// A receiver that was woken cannot note that its bit is still set.
+pub fn a_woken_receiver_cannot_sleep_on<T>()
+    ensures { (n size e : ℕ) (s : SleeperState T) → s.receivers e ≡ false
+        → sleeper_happens n size s (ReceiverSigns e (FindsBit e true)) ≡ s }
+{
+    a_note_of_a_bit_is_true::<T>();
+}
+
 #[cfg(test)]
 mod tests {
     use super::{
         a_call_on_one_cell_ends_within_seven_rounds, a_cleared_bit_ends_a_sleep,
-        an_end_that_owes_a_look_comes_on, an_item_and_a_free_cell_keep_awake,
-        another_end_adds_no_look, nobody_sleeps_in_a_closed_channel,
-        sleepers_do_not_hold_up_a_queue, the_marks_of_a_channel_are_legal,
+        a_woken_receiver_cannot_sleep_on, an_end_that_owes_a_look_comes_on,
+        an_item_and_a_free_cell_keep_awake, another_end_adds_no_look,
+        nobody_sleeps_in_a_closed_channel, sleepers_do_not_hold_up_a_queue,
+        the_marks_of_a_channel_are_legal,
     };
 
     #[test]
@@ -121,13 +130,6 @@ mod tests {
         an_end_that_owes_a_look_comes_on::<u64>();
         a_call_on_one_cell_ends_within_seven_rounds::<u64>();
         a_cleared_bit_ends_a_sleep::<u64>();
+        a_woken_receiver_cannot_sleep_on::<u64>();
     }
-}
-
-/// A receiver that was woken cannot note that its bit is still set.
-pub fn a_woken_receiver_cannot_sleep_on<T>()
-    ensures { (n size e : ℕ) (s : SleeperState T) → s.receivers e ≡ false
-        → sleeper_happens n size s (ReceiverSigns e (FindsBit e true)) ≡ s }
-{
-    a_note_of_a_bit_is_true::<T>();
 }
