@@ -1,5 +1,5 @@
 -- How a call begins.
-use Rattle.std.proofs.Common.{◌≡◌, ◌≢◌, ℕ, ◌+◌, ◌<◌, Bool, true, false, refl, ap, sym, ◌∙◌, subst, inl, arith, List, []}
+use Rattle.std.proofs.Common.{◌≡◌, ◌≢◌, ℕ, ◌+◌, ◌<◌, Bool, true, false, refl, ap, sym, ◌∙◌, subst, inl, arith, []}
 use Rattle.fak_channel_core.specs.SleeperSides.{tried_stage}
 use Rattle.fak_queue.specs.Queues.{drawn_by}
 use Rattle.fak_queue.specs.SleeperSeats.{SleeperInfo, account_of_seat}
@@ -11,13 +11,13 @@ use Rattle.fak_channel.specs.declared.standing.Next.{Next}
 use Rattle.fak_channel.specs.declared.standing.Next.TheVariants.{Idle, Claiming, Shutting}
 use Rattle.fak_channel.specs.declared.standing.Wish.{Wish}
 use Rattle.fak_channel.specs.declared.standing.Wish.TheVariants.{Send, Receive}
-use Rattle.fak_channel.specs.ChannelSteps.{Asked, Sending, Receiving, Closing, CallSince, SinceAt, BeginsAs, BeginsAfterLook}
+use Rattle.fak_channel.specs.ChannelSteps.{Asked, Sending, Receiving, Closing, SinceAt, BeginsAs, BeginsAfterLook}
 use Rattle.fak_model.specs.declared.queue.Mark.{Mark}
 use Rattle.fak_model.specs.Calls.{SeatInfo}
 use Rattle.fak_channel.specs.Channels.{OnlyLooks}
 use Rattle.fak_channel.specs.Marks.{HasMade}
 use Rattle.fak_channel.specs.Moves.{with_next}
-use Rattle.fak_channel.specs.Standings.{IsStepSeatOf, IsBetweenCalls, IsInCall, IsUp, IsAwake, HasTicket, StandsSo, OwesNone, call_state}
+use Rattle.fak_channel.specs.Standings.{IsStepSeatOf, IsUp, HasTicket, StandsSo, OwesNone, call_state}
 use Rattle.fak_channel.proofs.Following.{open_call}
 use Rattle.fak_channel.proofs.Transitions.{less_same}
 use Rattle.fak_channel.proofs.Waiting.{idle_so}

@@ -1,40 +1,36 @@
 -- How each step of a call adds to what the call has done so far.
-use Rattle.std.proofs.Common.{◌≡◌, ◌≢◌, ◌⊎◌, ℕ, ◌+◌, ◌<◌, Bool, true, false, refl, ap, sym, ◌∙◌, subst, inl, inr, arith, List, [], ◌∷◌, ◌++◌, length, replicate, suc, Option, Some, None, if◌then◌else◌}
+use Rattle.std.proofs.Common.{◌≡◌, ℕ, Bool, true, false, refl, ap, sym, ◌∙◌, subst, inl, inr, List, [], ◌∷◌, ◌++◌, length, replicate, suc, Option, Some, None, if◌then◌else◌}
 use Rattle.fak_model.specs.declared.note.Note.{Note}
 use Rattle.fak_model.specs.declared.note.NoteKind.{NoteKind}
-use Rattle.fak_model.specs.declared.note.NoteKind.TheVariants.{AsSender, AsReceiver, Checks}
 use Rattle.fak_model.specs.declared.note.Sign.TheVariants.{FallsAsleep, TakesBack, FindsBit}
-use Rattle.fak_model.specs.declared.queue.Kind.TheVariants as made
 use Rattle.fak_model.specs.declared.queue.Mark.{Mark}
 use Rattle.fak_model.specs.Calls.{SeatInfo}
 use Rattle.fak_model.specs.Queue.{items_put, item_at}
 use Rattle.fak_channel_core.specs.SleeperMoves.{Account}
-use Rattle.fak_queue.specs.Queues.{Makes, Fills, Takes, ShutsAs, drawn_by, state_of}
+use Rattle.fak_queue.specs.Queues.{Makes, Fills, Takes, ShutsAs, drawn_by}
 use Rattle.fak_queue.specs.SleeperRest.{marks_by}
 use Rattle.fak_queue.specs.Sleepers.{as_role}
 use Rattle.fak_queue.specs.declared.role.Role.{Role}
 use Rattle.fak_queue.specs.declared.role.Role.TheVariants.{Sender, Receiver}
-use Rattle.fak_queue.specs.declared.state.SeatState.TheVariants as at
 use Rattle.fak_queue.proofs.Accounts.{kinds_after}
-use Rattle.fak_queue.specs.SleeperSeats.{SleeperInfo, account_of_seat, AddsNote, AddsNoNote, LeavesNoMark, TakesBit, ChecksDrained, note_of}
+use Rattle.fak_queue.specs.SleeperSeats.{SleeperInfo, account_of_seat, AddsNote, AddsNoNote, TakesBit, ChecksDrained, note_of}
 use Rattle.fak_channel.specs.declared.channel.Channel.{Channel}
 use Rattle.fak_channel.specs.declared.seat.ChannelSeat.{ChannelSeat}
 use Rattle.fak_channel.specs.declared.standing.CallStanding.{CallStanding}
 use Rattle.fak_channel.specs.declared.standing.ChannelStep.{ChannelStep}
 use Rattle.fak_channel.specs.declared.standing.ChannelStep.TheVariants.{GoesOn, NotYet, Sleeps, Wakes, Ends}
-use Rattle.fak_channel.specs.declared.standing.Looks.{Looks}
 use Rattle.fak_channel.specs.declared.standing.Next.{Next}
 use Rattle.fak_channel.specs.declared.standing.Next.TheVariants.{Idle, Claiming, Inserting, Deleting, Checking, Registering, Testing, TestingDrained, TakingBack, Sleeping, Refusing, Refused, Shutting, Ending}
 use Rattle.fak_channel.specs.declared.standing.Outcome.{Outcome}
 use Rattle.fak_channel.specs.declared.standing.Outcome.TheVariants as outcome
 use Rattle.fak_channel.specs.declared.standing.Wish.{Wish}
 use Rattle.fak_channel.specs.declared.standing.Wish.TheVariants.{Send, Receive}
-use Rattle.fak_channel.specs.Standings.{IsStepSeatOf, StandsSo, OwesNone, MayClaim, HasTicket, role_of, ticket_in}
-use Rattle.fak_channel.specs.Moves.{Debt, Look, Check, None_owed, looks_for, with_looks, with_next, checked, refused_next, Calls, WasRefused, LoadsWord, passes, goes_round, finds, ClearsBit, LooksOnce, ClaimsRoom, room_granted, found_full, found_closed, ClaimsItem, item_granted, found_empty, FillsCell, WaitsForRoom, TakesItem, WaitsForItem, ChecksEmpty, found_drained, found_none, TestsRoom, sender_sleeps, room_came, TestsItem, no_item_yet, item_came, TestsDrained, receiver_sleeps, drained_meanwhile, ClearsOwn, FindsWake, FindsBitSet, OnlyStands, ShutsQueue, SetsBit, MovesNext, PaysCheck, ChecksOnce, MovesBy, Moves}
-use Rattle.fak_channel.specs.Channels.{NotesMore, HasFallenAsleep, HasTakenBack, slept, Sends, FindsClosed, Receives, IsOver, ClosesAs}
-use Rattle.fak_channel.specs.Marks.{Looked, HasFoundFull, FullSoFar, HasFoundEmpty, EmptySoFar}
-use Rattle.fak_channel.specs.ChannelSteps.{Asked, Sending, Receiving, Closing, WaitsSince, RefusedSince, InsertsAs, DeletesAs, ShutsSince, EndsAs, SinceAt, CallSince, StepsTo, HasGoneOn, none, more}
-use Rattle.fak_channel.proofs.Marking.{looked_more, put_on, full_again, full_more, empty_again, empty_more, claimed_in, looked_in, claimed_out, looked_out, deleted_out, inserted_at_last, closed_at_last, made_first}
+use Rattle.fak_channel.specs.Standings.{IsStepSeatOf, StandsSo, OwesNone, role_of, ticket_in}
+use Rattle.fak_channel.specs.Moves.{Look, Check, None_owed, looks_for, with_next, checked, refused_next, Calls, LoadsWord, passes, goes_round, finds, ClearsBit, LooksOnce, ClaimsRoom, room_granted, found_full, found_closed, ClaimsItem, item_granted, found_empty, FillsCell, WaitsForRoom, TakesItem, WaitsForItem, ChecksEmpty, found_drained, found_none, TestsRoom, sender_sleeps, room_came, TestsItem, no_item_yet, item_came, TestsDrained, receiver_sleeps, drained_meanwhile, OnlyStands, ShutsQueue, MovesNext, ChecksOnce, MovesBy, Moves}
+use Rattle.fak_channel.specs.Channels.{NotesMore, HasFallenAsleep, HasTakenBack, slept}
+use Rattle.fak_channel.specs.Marks.{Looked, HasFoundFull, HasFoundEmpty}
+use Rattle.fak_channel.specs.ChannelSteps.{Asked, Sending, Receiving, Closing, WaitsSince, RefusedSince, InsertsAs, DeletesAs, ShutsSince, EndsAs, SinceAt, CallSince, StepsTo}
+use Rattle.fak_channel.proofs.Marking.{looked_more, put_on, full_again, full_more, empty_again, empty_more, claimed_in, looked_in, claimed_out, looked_out, deleted_out, inserted_at_last, closed_at_last}
 
 -- ---- notes
 

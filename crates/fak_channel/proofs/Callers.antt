@@ -1,15 +1,13 @@
 -- How the steps of a call make the whole call.
-use Rattle.std.proofs.Common.{◌≡◌, ℕ, Bool, true, false, refl, sym, subst}
-use Rattle.fak_channel.specs.declared.channel.Channel.{Channel}
+use Rattle.std.proofs.Common.{ℕ, Bool, true, false}
 use Rattle.fak_channel.specs.declared.fault.ReceiveFault.TheVariants as receiving
 use Rattle.fak_channel.specs.declared.fault.SendFault.TheVariants as sending
 use Rattle.fak_channel.specs.declared.seat.ChannelSeat.{ChannelSeat}
 use Rattle.fak_channel.specs.declared.standing.Outcome.{Outcome}
-use Rattle.fak_channel.specs.declared.standing.Outcome.TheVariants as outcome
 use Rattle.fak_channel.specs.declared.standing.Wish.{Wish}
 use Rattle.fak_channel.specs.declared.standing.Wish.TheVariants.{Send, Receive}
 use Rattle.fak_channel.specs.Channels.{RefusesSendUntil, RefusesReceiveUntil, RefusesTrySend, RefusesTryReceive}
-use Rattle.fak_channel.specs.ChannelSteps.{Asked, Sending, Receiving, Closing, BeginsAs, EndsAs, EndsAll, RefusesAll, RefusedSince, WakesNone}
+use Rattle.fak_channel.specs.ChannelSteps.{Asked, Sending, Receiving, BeginsAs, EndsAs, EndsAll, RefusesAll, WakesNone}
 
 module _ {T : Type 0} (size : ℕ) (old mid new : ChannelSeat T) where
   -- what was asked ended so

@@ -1,7 +1,6 @@
 -- How looks pay what an end owes on one side.
-use Rattle.std.proofs.Common.{◌≡◌, ◌≢◌, ◌⊎◌, ℕ, zero, suc, ◌+◌, ◌*◌, ◌-◌, ◌/◌, ◌<◌, ◌≤◌, Bool, true, false, refl, ap, sym, ◌∙◌, subst, inl, inr, arith, Option, Some, None, IfSome, nat_lt, if◌then◌else◌}
+use Rattle.std.proofs.Common.{◌≡◌, ◌≢◌, ◌⊎◌, ℕ, zero, suc, ◌+◌, ◌*◌, ◌-◌, ◌/◌, ◌<◌, ◌≤◌, Bool, true, false, refl, ap, sym, ◌∙◌, subst, inl, inr, arith, nat_lt, if◌then◌else◌}
 use Rattle.std.specs.Prelude.{◌||◌, ◌==◌}
-use Rattle.std.proofs.lemmas.Grind.{common_steps}
 use Rattle.fak_model.specs.Limits.{large_seats}
 use Rattle.fak_model.proofs.Common.{nat_tests}
 use Rattle.fak_channel_core.specs.SleeperSides.{Duty, has_passed, less, passes_word}

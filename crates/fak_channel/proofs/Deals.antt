@@ -1,14 +1,12 @@
 -- Seats as an opening deals them.
-use Rattle.std.proofs.Common.{◌≡◌, ℕ, zero, suc, ◌+◌, ◌-◌, ◌*◌, ◌<◌, ◌≤◌, List, [], ◌∷◌, ◌++◌, length, true, false, refl, ap, sym, ◌∙◌, subst, arith, pos}
+use Rattle.std.proofs.Common.{◌≡◌, ℕ, zero, suc, ◌+◌, ◌-◌, ◌*◌, ◌<◌, List, [], ◌∷◌, ◌++◌, length, true, false, refl, ap, sym, ◌∙◌, subst, arith}
 use Rattle.std.specs.List.{All}
 use Rattle.std.proofs.lemmas.List.Elements.{All-nil, All-cons}
-use Rattle.fak_model.specs.Limits.{large_seats}
 use Rattle.fak_channel_core.specs.SleeperSides.{Duty}
-use Rattle.fak_queue.specs.SleeperSeats.{SleeperInfo, fresh_sleeper}
 use Rattle.fak_channel.specs.declared.channel.Channel.{Channel}
 use Rattle.fak_channel.specs.declared.seat.ChannelSeat.{ChannelSeat}
 use Rattle.fak_channel.specs.Looks.{Covers, fresh_looks, words_of}
-use Rattle.fak_channel.specs.Standings.{IsSeatOf, IsStepSeatOf}
+use Rattle.fak_channel.specs.Standings.{IsSeatOf}
 use Rattle.fak_channel.specs.Undealt.{dealt, fresh_channel_seat, fresh_channel_seats, IsFreshChannel}
 
 pub length-dealt : {A : Type 0} (f : ℕ → A) (name n : ℕ) → length (dealt f name n) ≡ n

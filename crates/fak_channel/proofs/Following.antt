@@ -1,6 +1,5 @@
 -- The state of a seat after each step of a call, and what a call keeps: whether it is a try.
-use Rattle.std.proofs.Common.{◌≡◌, ◌≢◌, ◌⊎◌, ℕ, Bool, true, false, refl, ap, sym, ◌∙◌, subst, inl, inr, Option, Some, None, if◌then◌else◌}
-use Rattle.fak_queue.specs.SleeperSeats.{SleeperInfo, ChecksDrained}
+use Rattle.std.proofs.Common.{◌≡◌, ◌≢◌, ℕ, Bool, true, false, refl, ap, sym, ◌∙◌, subst, Option, Some, None, if◌then◌else◌}
 use Rattle.fak_queue.specs.declared.role.Role.{Role}
 use Rattle.fak_queue.specs.declared.role.Role.TheVariants.{Sender, Receiver}
 use Rattle.fak_channel.specs.declared.channel.Channel.{Channel}
@@ -13,8 +12,8 @@ use Rattle.fak_channel.specs.declared.standing.Next.{Next}
 use Rattle.fak_channel.specs.declared.standing.Next.TheVariants.{Idle, Claiming, Inserting, Deleting, Checking, Registering, Testing, TestingDrained, TakingBack, Sleeping, Refusing, Refused, Shutting, Ending}
 use Rattle.fak_channel.specs.declared.standing.Wish.{Wish}
 use Rattle.fak_channel.specs.declared.standing.Wish.TheVariants.{Send, Receive}
-use Rattle.fak_channel.specs.Standings.{IsInCall, IsAsleep, IsBetweenCalls, call_state}
-use Rattle.fak_channel.specs.Moves.{Debt, Look, Check, None_owed, looks_for, with_looks, with_next, refused_next, checked, LoadsWord, passes, goes_round, finds, ClearsBit, LooksOnce, ClaimsRoom, room_granted, found_full, found_closed, ClaimsItem, item_granted, found_empty, ChecksEmpty, found_drained, found_none, TestsRoom, sender_sleeps, room_came, TestsItem, no_item_yet, item_came, TestsDrained, receiver_sleeps, drained_meanwhile, MovesNext, ChecksOnce, MovesBy, Moves}
+use Rattle.fak_channel.specs.Standings.{IsInCall, IsAsleep, call_state}
+use Rattle.fak_channel.specs.Moves.{Look, Check, None_owed, looks_for, refused_next, checked, LoadsWord, passes, goes_round, finds, ClearsBit, LooksOnce, ClaimsRoom, room_granted, found_full, found_closed, ClaimsItem, item_granted, found_empty, ChecksEmpty, found_drained, found_none, TestsRoom, sender_sleeps, room_came, TestsItem, no_item_yet, item_came, TestsDrained, receiver_sleeps, drained_meanwhile, MovesNext, ChecksOnce, MovesBy, Moves}
 use Rattle.fak_channel.specs.ChannelSteps.{StandsAfter}
 
 pub open_call : {A : Type 0} → state.Open ≡ state.Idle → A

@@ -1,16 +1,15 @@
 -- How a call is given up.
-use Rattle.std.proofs.Common.{◌≡◌, ◌≢◌, refl, ap, sym, ◌∙◌, subst, Option, Some, None, MatchOption}
-use Rattle.fak_queue.specs.SleeperSeats.{SleeperInfo, account_of_seat}
+use Rattle.std.proofs.Common.{◌≡◌, ap, sym, ◌∙◌, subst, Option, Some, None, MatchOption}
+use Rattle.fak_queue.specs.SleeperSeats.{account_of_seat}
 use Rattle.fak_channel.specs.declared.channel.Channel.{Channel}
 use Rattle.fak_channel.specs.declared.seat.ChannelSeat.{ChannelSeat}
 use Rattle.fak_channel.specs.declared.standing.CallStanding.{CallStanding}
-use Rattle.fak_channel.specs.declared.standing.ChannelState.TheVariants as state
 use Rattle.fak_channel.specs.declared.standing.ChannelStep.TheVariants.{GoesOn}
 use Rattle.fak_channel.specs.declared.standing.Next.{Next}
 use Rattle.fak_channel.specs.declared.standing.Next.TheVariants.{Idle, Sleeping, Refused}
 use Rattle.fak_channel.specs.declared.standing.Wish.{Wish}
 use Rattle.fak_channel.specs.Channels.{HasTakenBack, HasFallenAsleep}
-use Rattle.fak_channel.specs.ChannelSteps.{Asked, CallSince, RefusedSince, SinceAt, GivesUp, GivesUpFrom}
+use Rattle.fak_channel.specs.ChannelSteps.{Asked, RefusedSince, SinceAt, GivesUp, GivesUpFrom}
 use Rattle.fak_channel.specs.Moves.{FindsWake, TakesOwn, GivesUpSleep, OnlyStands, MovesNext, Moves, at_next, with_next}
 use Rattle.fak_channel.specs.Standings.{IsStepSeatOf, IsInCall, IsBetweenCalls, StandsSo, call_state, role_of}
 use Rattle.fak_channel.proofs.CallSteps.{moved_since, only_refused, refused_on, taken_back}

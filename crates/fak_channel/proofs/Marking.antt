@@ -1,6 +1,5 @@
 -- Parts of a call in the queue, one after another, with looks in between.
-use Rattle.std.proofs.Common.{◌≡◌, ◌⊎◌, ℕ, ◌+◌, ◌<◌, List, [], ◌∷◌, ◌++◌, length, length-append, map, refl, ap, sym, ◌∙◌, subst, append-nil, append_assoc, inl, inr, arith, Some, flat_map}
-use Rattle.std.specs.List.{All}
+use Rattle.std.proofs.Common.{◌≡◌, ℕ, ◌+◌, ◌<◌, List, [], ◌∷◌, ◌++◌, length, length-append, refl, ap, sym, ◌∙◌, subst, append-nil, append_assoc, inl, inr, arith, Some, flat_map}
 use Rattle.std.proofs.lemmas.Grind.{common_steps}
 use Rattle.std.proofs.lemmas.List.Elements.{All-push, All-cons, All-nil}
 use Rattle.fak_model.specs.declared.queue.Kind.{Kind}
@@ -11,8 +10,8 @@ use Rattle.fak_model.specs.Queue.{count, puts, gots, items_put, item_at}
 use Rattle.fak_model.specs.Seats.{Begins, marks_of}
 use Rattle.fak_queue.proofs.AfterRefusals.{made_by_append, flat_map_push}
 use Rattle.fak_queue.proofs.WholeCalls.{before_mark-stays, item_stays}
-use Rattle.fak_queue.specs.Queues.{Makes, Inserts, Deletes, ClaimsIn, ClaimsOut, Fills, Takes, RefusesFull, RefusesClosed, RefusesEmpty, made_by, seat_of, before_own, drawn_by, kinds_in}
-use Rattle.fak_queue.specs.Retries.{RefusedInsertion, NotIn, WithdrawnIn, ClosedIn, WithdrawnLate, kinds_not_in, IsFull, IsClosed, RefusedDeletion, NotOut, WithdrawnOut, kinds_not_out, MakesAtLast, before_last, InsertsAfterFull, ClosesAfterFull}
+use Rattle.fak_queue.specs.Queues.{Makes, Inserts, Deletes, ClaimsIn, ClaimsOut, Fills, Takes, RefusesFull, RefusesClosed, RefusesEmpty, made_by, seat_of, before_own, drawn_by}
+use Rattle.fak_queue.specs.Retries.{RefusedInsertion, NotIn, WithdrawnIn, ClosedIn, WithdrawnLate, kinds_not_in, IsFull, IsClosed, RefusedDeletion, NotOut, WithdrawnOut, kinds_not_out, InsertsAfterFull, ClosesAfterFull}
 use Rattle.fak_channel.specs.Marks.{HasMade, Looked, HasFoundFull, FullSoFar, HasFoundEmpty, EmptySoFar, HasClaimedIn, HasClaimedOut}
 
 last_behind : {T : Type 0} (name : ℕ) (ks : List (Kind T)) (κ : Kind T) (ls : List (Kind T)) → last_of (made_by name (ks ++ κ ∷ ls)) ≡ last_of (made_by name (κ ∷ ls))

@@ -1,5 +1,5 @@
 -- A look at the counts leaves a seat's standing in agreement with its account.
-use Rattle.std.proofs.Common.{◌≡◌, ℕ, ◌<◌, [], refl, ap, sym, ◌∙◌, subst, arith}
+use Rattle.std.proofs.Common.{◌≡◌, ℕ, [], ap, sym, ◌∙◌, subst}
 use Rattle.fak_model.specs.declared.queue.Mark.{Mark}
 use Rattle.fak_model.specs.Calls.{SeatInfo}
 use Rattle.fak_channel_core.specs.SleeperMoves.{Account}
@@ -7,11 +7,10 @@ use Rattle.fak_queue.specs.Queues.{Makes, drawn_by, state_of}
 use Rattle.fak_queue.specs.SleeperSeats.{SleeperInfo, KeepsNotes, account_of_seat}
 use Rattle.fak_queue.specs.declared.state.SeatState.TheVariants as at
 use Rattle.fak_channel.specs.declared.channel.Channel.{Channel}
-use Rattle.fak_channel.specs.declared.seat.ChannelSeat.{ChannelSeat}
 use Rattle.fak_channel.specs.declared.standing.CallStanding.{CallStanding}
 use Rattle.fak_channel.specs.declared.standing.Next.{Next}
 use Rattle.fak_channel.specs.declared.standing.Next.TheVariants.{Idle, Claiming, Inserting, Deleting, Checking, Registering, Testing, TestingDrained, TakingBack, Sleeping, Refusing, Refused, Shutting, Ending}
-use Rattle.fak_channel.specs.Standings.{IsStepSeatOf, StandsSo, StandsClear, Pays, MayClaim, IsIdle, IsInserting, IsDeleting, ticket_in}
+use Rattle.fak_channel.specs.Standings.{IsStepSeatOf, StandsSo, StandsClear, Pays, MayClaim, ticket_in}
 use Rattle.fak_channel.proofs.Transitions.{less_same}
 
 module _ {T : Type 0} (q q' : SleeperInfo T) (state : state_of q'.seat ≡ state_of q.seat) (drawn : drawn_by q'.seat ≡ drawn_by q.seat) (stint : q'.seat.stint ≡ q.seat.stint) where

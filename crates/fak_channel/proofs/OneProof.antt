@@ -1,5 +1,5 @@
 -- Whether a seat belongs to a channel is a fact with at most one proof.
-use Rattle.std.proofs.Common.{◌≡◌, ℕ, zero, suc, List, Option, Some, None, Bool, true, false, refl, IfSome, ◌<◌}
+use Rattle.std.proofs.Common.{◌≡◌, ℕ, List, Option, Some, None, Bool, true, false, refl, IfSome, ◌<◌}
 use Rattle.std.proofs.Math.Bool.{Bool-set}
 use Rattle.std.proofs.Math.IntN.{ℤ_set}
 use Rattle.std.proofs.Math.Nat.{ℕ_set}

@@ -1,22 +1,19 @@
 -- Steps of a call, one after another.
-use Rattle.std.proofs.Common.{◌≡◌, ◌≢◌, Bool, true, false, refl, ap, sym, ◌∙◌, subst, Option, Some, None, ℕ}
+use Rattle.std.proofs.Common.{◌≡◌, true, false, refl, sym, ◌∙◌, Some, None, ℕ}
 use Rattle.fak_channel_core.specs.SleeperMoves.{Account}
 use Rattle.fak_queue.specs.SleeperSeats.{SleeperInfo, account_of_seat}
 use Rattle.fak_channel.specs.declared.standing.CallStanding.{CallStanding}
 use Rattle.fak_channel.specs.declared.channel.Channel.{Channel}
-use Rattle.fak_channel.specs.declared.progress.Stop.{Stop}
 use Rattle.fak_channel.specs.declared.progress.Stop.TheVariants as stop
 use Rattle.fak_channel.specs.declared.seat.ChannelSeat.{ChannelSeat}
-use Rattle.fak_channel.specs.declared.standing.ChannelState.TheVariants as state
-use Rattle.fak_channel.specs.declared.standing.ChannelStep.{ChannelStep}
 use Rattle.fak_channel.specs.declared.standing.ChannelStep.TheVariants.{GoesOn, NotYet, Sleeps, Wakes, Ends}
 use Rattle.fak_channel.specs.declared.standing.Next.{Next}
 use Rattle.fak_channel.specs.declared.standing.Next.TheVariants.{Idle, Claiming, Inserting, Deleting, Checking, Registering, Testing, TestingDrained, TakingBack, Sleeping, Refusing, Refused, Shutting, Ending}
 use Rattle.fak_channel.specs.declared.standing.Outcome.{Outcome}
 use Rattle.fak_channel.specs.declared.standing.Wish.{Wish}
-use Rattle.fak_channel.specs.Standings.{IsStepSeatOf, IsSeatOf, IsInCall, IsAsleep, IsBetweenCalls, StandsSo, call_state, role_of}
+use Rattle.fak_channel.specs.Standings.{IsStepSeatOf, IsInCall, IsAsleep, IsBetweenCalls, StandsSo, role_of}
 use Rattle.fak_channel.specs.Channels.{HasTakenBack}
-use Rattle.fak_channel.specs.ChannelSteps.{Asked, CallSince, RefusedSince, EndsAs, EndsAll, RefusesAll, WakesNone, StopsAt, GivesUp, GivesUpFrom, HasGoneOn, none, more}
+use Rattle.fak_channel.specs.ChannelSteps.{Asked, CallSince, RefusedSince, EndsAll, RefusesAll, WakesNone, StopsAt, GivesUp, GivesUpFrom, HasGoneOn, none, more}
 use Rattle.fak_channel.specs.Moves.{Moves}
 use Rattle.fak_channel.proofs.CallSteps.{moved_since}
 use Rattle.fak_channel.proofs.Following.{moved_follows, asleep_in_call}

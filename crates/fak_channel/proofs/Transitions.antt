@@ -1,5 +1,5 @@
 -- Each step of a call leaves the standing of its seat in agreement with its account.
-use Rattle.std.proofs.Common.{◌≡◌, ◌≢◌, ◌⊎◌, ℕ, ◌+◌, ◌*◌, ◌/◌, ◌%◌, ◌<◌, ◌≤◌, Bool, true, false, refl, ap, sym, ◌∙◌, subst, inl, inr, arith, List, [], ◌∷◌, Option, Some, None, IfSome, reverse, if◌then◌else◌}
+use Rattle.std.proofs.Common.{◌≡◌, ◌⊎◌, ℕ, ◌+◌, ◌*◌, ◌/◌, ◌<◌, ◌≤◌, Bool, true, false, refl, ap, sym, ◌∙◌, subst, inl, inr, arith, List, [], ◌∷◌, Option, Some, None, reverse, if◌then◌else◌}
 use Rattle.fak_model.specs.Limits.{large_seats}
 use Rattle.fak_model.specs.declared.note.NoteKind.{NoteKind}
 use Rattle.fak_model.specs.declared.note.NoteKind.TheVariants.{AsSender, AsReceiver, Checks}
@@ -9,10 +9,10 @@ use Rattle.fak_model.specs.declared.queue.Kind.TheVariants as made
 use Rattle.fak_model.specs.declared.queue.Mark.{Mark}
 use Rattle.fak_model.specs.Calls.{ObjectId, SeatInfo}
 use Rattle.fak_model.specs.declared.note.Note.{Note}
-use Rattle.fak_channel_core.specs.SleeperSides.{SleepStage, Awake, Registered, PastLower, Asleep, Woken, relies_on_bit, tried_stage, owes_look, tried}
+use Rattle.fak_channel_core.specs.SleeperSides.{SleepStage, Awake, Registered, PastLower, Asleep, relies_on_bit, tried_stage, owes_look, tried}
 use Rattle.fak_channel_core.specs.SleeperMoves.{Account, after_note}
 use Rattle.fak_queue.specs.Accounts.{after_kinds}
-use Rattle.fak_queue.specs.Queues.{Makes, RefusesFull, RefusesClosed, RefusesEmpty, ShutsAs, drawn_by, state_of}
+use Rattle.fak_queue.specs.Queues.{Makes, ShutsAs, drawn_by, state_of}
 use Rattle.fak_queue.specs.Sleepers.{as_role}
 use Rattle.fak_queue.specs.declared.role.Role.{Role}
 use Rattle.fak_queue.specs.declared.role.Role.TheVariants.{Sender, Receiver}
@@ -29,9 +29,9 @@ use Rattle.fak_channel.specs.declared.standing.Next.TheVariants.{Idle, Claiming,
 use Rattle.fak_channel.specs.declared.standing.Outcome.TheVariants as outcome
 use Rattle.fak_channel.specs.declared.standing.Wish.{Wish}
 use Rattle.fak_channel.specs.declared.standing.Wish.TheVariants.{Send, Receive}
-use Rattle.fak_channel.specs.Looks.{words_of, word_at, owing, past_word, past_bits, finding, retrying, done_at, Covers}
-use Rattle.fak_channel.specs.Standings.{IsStepSeatOf, StandsSo, StandsClear, StandsOwing, StandsChecking, OwesNone, Pays, ChecksIf, MayClaim, HasTicket, IsIdle, IsInserting, IsDeleting, IsUp, SenderIsUp, ReceiverIsUp, HasSet, IsOfKind, IsAwake, StageFor, StagesAre, role_of, ticket_in, call_state, IsInCall, IsAsleep}
-use Rattle.fak_channel.specs.Moves.{Debt, Look, Check, None_owed, first_debt, looks_for, with_looks, with_next, room_made, item_made, checked, refused_next, Calls, WasRefused, LoadsWord, passes, goes_round, finds, ClearsBit, GoesOnBy, LooksOnce, ClaimsRoom, room_granted, found_full, found_closed, ClaimsItem, item_granted, found_empty, FillsCell, WaitsForRoom, TakesItem, WaitsForItem, ChecksEmpty, found_drained, found_none, TestsRoom, sender_sleeps, room_came, TestsItem, no_item_yet, item_came, TestsDrained, receiver_sleeps, drained_meanwhile, ClearsOwn, FindsWake, TakesOwn, FindsBitSet, OnlyStands, ShutsQueue, SetsBit, MovesNext, PaysCheck, ChecksOnce, MovesBy, Moves}
+use Rattle.fak_channel.specs.Looks.{words_of, word_at, past_word, past_bits, finding, retrying, done_at, Covers}
+use Rattle.fak_channel.specs.Standings.{IsStepSeatOf, StandsSo, OwesNone, Pays, ChecksIf, MayClaim, IsInserting, IsDeleting, IsUp, SenderIsUp, ReceiverIsUp, HasSet, IsAwake, StageFor, StagesAre, role_of, ticket_in}
+use Rattle.fak_channel.specs.Moves.{Debt, Look, Check, None_owed, first_debt, looks_for, with_looks, with_next, room_made, item_made, checked, refused_next, Calls, WasRefused, LoadsWord, passes, goes_round, finds, ClearsBit, LooksOnce, ClaimsRoom, room_granted, found_full, found_closed, ClaimsItem, item_granted, found_empty, FillsCell, WaitsForRoom, TakesItem, WaitsForItem, ChecksEmpty, found_drained, found_none, TestsRoom, sender_sleeps, room_came, TestsItem, no_item_yet, item_came, TestsDrained, receiver_sleeps, drained_meanwhile, ClearsOwn, TakesOwn, FindsBitSet, OnlyStands, ShutsQueue, SetsBit, MovesNext, ChecksOnce, MovesBy, Moves}
 use Rattle.fak_channel.proofs.Covering.{covers_same, covers_owing, covers_past, covers_round, covers_finding, covers_retrying, covers_done}
 
 -- ---- plain facts

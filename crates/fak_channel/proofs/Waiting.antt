@@ -1,14 +1,13 @@
 -- An end that waits owes nothing.
-use Rattle.std.proofs.Common.{◌≡◌, ◌⊎◌, ℕ, ◌<◌, ◌≤◌, Bool, true, false, refl, ap, sym, ◌∙◌, subst, inl, inr, arith, Option, None, Some, List, ◌∷◌}
+use Rattle.std.proofs.Common.{◌≡◌, ◌⊎◌, ℕ, true, ap, ◌∙◌, subst, inl, inr, Option, None, Some, ◌∷◌}
 use Rattle.atomic_table.specs.Table.{State}
-use Rattle.fak_model.specs.declared.note.Note.{Note}
 use Rattle.fak_model.specs.declared.note.Sign.TheVariants.{FindsBit}
-use Rattle.fak_channel_core.specs.SleeperSides.{SleepStage, Awake, Asleep, Duty}
+use Rattle.fak_channel_core.specs.SleeperSides.{Awake, Asleep}
 use Rattle.fak_channel_core.specs.SleeperMoves.{Account}
 use Rattle.fak_queue.specs.declared.limits.QueueLimits.{QueueLimits}
 use Rattle.fak_queue.specs.declared.role.Role.{Role}
 use Rattle.fak_queue.specs.declared.role.Role.TheVariants.{Sender, Receiver}
-use Rattle.fak_queue.specs.SeatsSeen.{IsSeenIn, SeatSleeps, SeatRests, AllRest}
+use Rattle.fak_queue.specs.SeatsSeen.{SeatSleeps, SeatRests, AllRest}
 use Rattle.fak_queue.specs.Shown.{QueueView}
 use Rattle.fak_queue.specs.SleeperRest.{OwesNothing}
 use Rattle.fak_queue.specs.SleeperSeats.{SleeperInfo, account_of_seat, note_of}

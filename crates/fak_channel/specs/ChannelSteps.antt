@@ -1,12 +1,11 @@
 -- Calls of a channel by steps that never wait: what an open call has done so far, and how it ends.
-use Rattle.std.specs.Prelude.{◌≡◌, ◌≢◌, ◌⊎◌, ℕ, ◌+◌, ◌<◌, Bool, true, false, List, [], ◌∷◌, Option, Some, None, pos, ◌≤ℤ◌, ◌<ℤ◌}
+use Rattle.std.specs.Prelude.{◌≡◌, ℕ, Bool, true, false, [], Option, Some, None, pos, ◌≤ℤ◌}
 use Rattle.fak_model.specs.declared.queue.Kind.TheVariants.{Close}
 use Rattle.fak_model.specs.declared.queue.Mark.{Mark}
 use Rattle.fak_model.specs.Calls.{SeatInfo}
-use Rattle.fak_model.specs.Queue.{Has, upper_count, lower_count}
+use Rattle.fak_model.specs.Queue.{Has, upper_count}
 use Rattle.fak_queue.specs.Drained.{IsDrained}
-use Rattle.fak_queue.specs.Queues.{Deletes, ShutsAs, drawn_by, state_of}
-use Rattle.fak_queue.specs.Retries.{InsertsAfterFull, ClosesAfterFull}
+use Rattle.fak_queue.specs.Queues.{state_of}
 use Rattle.fak_queue.specs.declared.state.SeatState.TheVariants as at
 use Rattle.fak_channel.specs.declared.channel.Channel.{Channel}
 use Rattle.fak_channel.specs.declared.fault.ReceiveFault.{ReceiveFault}
@@ -25,8 +24,8 @@ use Rattle.fak_channel.specs.declared.standing.Outcome.TheVariants as outcome
 use Rattle.fak_channel.specs.declared.standing.Wish.{Wish}
 use Rattle.fak_channel.specs.declared.standing.Wish.TheVariants.{Send, Receive}
 use Rattle.fak_channel.specs.Standings.{IsBetweenCalls, IsInCall, IsAsleep, role_of}
-use Rattle.fak_channel.specs.Marks.{Looked, HasFoundFull, FullSoFar, HasFoundEmpty, EmptySoFar, HasClaimedIn, HasClaimedOut, HasMade}
-use Rattle.fak_channel.specs.Channels.{IsSpent, OnlyLooks, NotesMore, HasFallenAsleep, HasTakenBack, Sends, Receives, FindsClosed, IsOver, ClosesAs, RefusesSendUntil, RefusesReceiveUntil, RefusesTrySend, RefusesTryReceive, GivesUpSending, GivesUpReceiving}
+use Rattle.fak_channel.specs.Marks.{HasFoundFull, FullSoFar, HasFoundEmpty, EmptySoFar, HasClaimedIn, HasClaimedOut, HasMade}
+use Rattle.fak_channel.specs.Channels.{IsSpent, OnlyLooks, NotesMore, HasFallenAsleep, HasTakenBack, Sends, Receives, FindsClosed, IsOver, ClosesAs}
 use Rattle.fak_channel.specs.Moves.{Moves}
 
 -- what a call is asked to do

@@ -1,11 +1,10 @@
 -- What callers see of a channel and of its seats, and what whole calls do to them. Histories have the oldest mark first.
-use Rattle.std.specs.Prelude.{◌≡◌, ◌⊎◌, ℕ, ◌+◌, Bool, true, false, List, [], ◌∷◌, ◌++◌, replicate, Some, pos, ◌≤ℤ◌, ◌<ℤ◌}
+use Rattle.std.specs.Prelude.{◌≡◌, ◌⊎◌, ℕ, Bool, true, List, [], ◌∷◌, ◌++◌, replicate, Some, pos, ◌≤ℤ◌}
 use Rattle.fak_model.specs.declared.note.Note.{Note}
 use Rattle.fak_model.specs.declared.note.Sign.TheVariants.{FallsAsleep, TakesBack, FindsBit}
-use Rattle.fak_model.specs.declared.queue.Kind.TheVariants.{Close}
 use Rattle.fak_model.specs.declared.queue.Mark.{Mark}
-use Rattle.fak_model.specs.Queue.{Has, IsQueueHistory, item_at, items_put, lower_count, upper_count}
-use Rattle.fak_model.specs.Calls.{SeatInfo, seat_info}
+use Rattle.fak_model.specs.Queue.{IsQueueHistory, item_at, items_put, lower_count}
+use Rattle.fak_model.specs.Calls.{SeatInfo}
 use Rattle.fak_queue.specs.Drained.{IsDrained}
 use Rattle.fak_queue.specs.Queues.{Deletes, ShutsAs, drawn_by}
 use Rattle.fak_queue.specs.Retries.{InsertsAfterFull, ClosesAfterFull}
@@ -13,7 +12,6 @@ use Rattle.fak_queue.specs.Sleepers.{as_role}
 use Rattle.fak_queue.specs.declared.role.Role.{Role}
 use Rattle.fak_queue.specs.declared.role.Role.TheVariants.{Sender, Receiver}
 use Rattle.fak_queue.specs.SleeperSeats.{SleeperInfo, note_of}
-use Rattle.fak_channel.specs.declared.channel.Channel.{Channel}
 use Rattle.fak_channel.specs.declared.seat.ChannelSeat.{ChannelSeat}
 use Rattle.fak_channel.specs.declared.fault.SendFault.{SendFault}
 use Rattle.fak_channel.specs.declared.fault.SendFault.TheVariants as sending

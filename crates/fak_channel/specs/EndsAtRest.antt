@@ -1,7 +1,7 @@
 -- When an end of a channel rests: what its standing says of its account, and all ends at rest in the table of a running channel.
 use Rattle.std.specs.Prelude.{◌≡◌, ◌⊎◌, ℕ, ◌<◌, true, Option}
 use Rattle.atomic_table.specs.Table.{State}
-use Rattle.fak_channel_core.specs.SleeperSides.{SleepStage, Awake, Asleep}
+use Rattle.fak_channel_core.specs.SleeperSides.{SleepStage}
 use Rattle.fak_queue.specs.declared.limits.QueueLimits.{QueueLimits}
 use Rattle.fak_queue.specs.declared.state.SeatState.TheVariants as at
 use Rattle.fak_queue.specs.Queues.{state_of}

@@ -1,5 +1,5 @@
 -- Looks for sleepers: which words of bits are still to be loaded, and how a look covers what an end owes.
-use Rattle.std.specs.Prelude.{◌≡◌, ◌⊎◌, ℕ, ◌+◌, ◌*◌, ◌-◌, ◌/◌, ◌%◌, ◌<◌, ◌≤◌, Bool, true, false, if◌then◌else◌, nat_lt, Option, Some, None, IfSome}
+use Rattle.std.specs.Prelude.{◌≡◌, ◌⊎◌, ℕ, ◌+◌, ◌*◌, ◌-◌, ◌/◌, ◌%◌, ◌<◌, ◌≤◌, true, false, if◌then◌else◌, nat_lt, Option, Some, None, IfSome}
 use Rattle.fak_model.specs.Limits.{large_seats}
 use Rattle.fak_channel_core.specs.SleeperSides.{Duty, has_bit}
 use Rattle.fak_channel.specs.declared.standing.Looks.{Looks}

@@ -1,12 +1,9 @@
 -- Which step a call takes from where it stands, what the step does to its seat and to its account, and what it returns.
-use Rattle.std.specs.Prelude.{◌≡◌, ◌≢◌, ◌⊎◌, ◌↔◌, ℕ, ◌<◌, ◌≤◌, ◌/◌, ◌%◌, ℤ, pos, ◌≤ℤ◌, ◌<ℤ◌, Bool, true, false, if◌then◌else◌, List, Option, Some, None, IsTrue}
-use Rattle.fak_model.specs.declared.note.NoteKind.{NoteKind}
-use Rattle.fak_model.specs.declared.note.NoteKind.TheVariants.{AsSender, AsReceiver, Checks}
+use Rattle.std.specs.Prelude.{◌≡◌, ◌≢◌, ◌⊎◌, ℕ, ◌<◌, ℤ, Bool, true, false, if◌then◌else◌, Option, Some, None}
+use Rattle.fak_model.specs.declared.note.NoteKind.TheVariants.{AsSender, AsReceiver}
 use Rattle.fak_model.specs.declared.note.Sign.TheVariants.{Registers, FindsNoItem, FallsAsleep, IsWoken, TakesBack, FindsBit, PassesWord, FindsWord, WakesEnd}
 use Rattle.fak_model.specs.declared.queue.Kind.TheVariants.{Close}
-use Rattle.fak_model.specs.declared.queue.Mark.{Mark}
-use Rattle.fak_model.specs.Calls.{SeatInfo}
-use Rattle.fak_model.specs.Queue.{Has, upper_count, lower_count}
+use Rattle.fak_model.specs.Queue.{Has}
 use Rattle.fak_queue.specs.declared.role.Role.{Role}
 use Rattle.fak_queue.specs.declared.role.Role.TheVariants.{Sender, Receiver}
 use Rattle.fak_queue.specs.declared.state.SeatState.TheVariants as at

@@ -1,5 +1,5 @@
 -- What the type of a channel's seat keeps: how its standing agrees with its account as an end of the channel.
-use Rattle.std.specs.Prelude.{◌≡◌, ◌≢◌, ◌⊎◌, ℕ, ◌*◌, ◌<◌, ◌≤◌, Bool, true, false, IfSome, pos}
+use Rattle.std.specs.Prelude.{◌≡◌, ◌≢◌, ℕ, ◌*◌, ◌<◌, ◌≤◌, Bool, true, false, IfSome, pos}
 use Rattle.fak_model.specs.Limits.{large_seats}
 use Rattle.fak_channel_core.specs.SleeperSides.{SleepStage, Awake, Registered, PastLower, Asleep, relies_on_bit, tried_stage}
 use Rattle.fak_channel_core.specs.SleeperMoves.{Account}

@@ -1,7 +1,7 @@
 -- The seats of a channel as it is opened, and those that are still to be dealt.
 use Rattle.std.specs.Prelude.{◌≡◌, ℕ, zero, suc, ◌+◌, ◌-◌, ◌<◌, ◌≤◌, List, [], ◌∷◌, Option, Some, None, pos}
 use Rattle.fak_model.specs.Limits.{large_seats}
-use Rattle.fak_queue.specs.SleeperSeats.{SleeperInfo, fresh_sleeper}
+use Rattle.fak_queue.specs.SleeperSeats.{fresh_sleeper}
 use Rattle.fak_channel.specs.declared.channel.Channel.{Channel}
 use Rattle.fak_channel.specs.declared.seat.ChannelSeat.{ChannelSeat}
 use Rattle.fak_channel.specs.declared.undealt.UndealtSeats.{UndealtSeats}

@@ -18,7 +18,7 @@ use Rattle.fak_channel.specs.Undealt.{fresh_channel_seat}
 use Rattle.fak_channel.specs.declared.channel.Channel.{Channel as ChannelInfo}
 use Rattle.fak_handles.specs.declared.channel.seat.Item.{Item}
 use Rattle.fak_handles.specs.declared.desk.Desk.{Desk}
-use Rattle.fak_handles.specs.declared.desk.Desk.TheVariants.{Queue, Semaphore, Room, Credit, Files, Channel, Bundle}
+use Rattle.fak_handles.specs.declared.desk.Desk.TheVariants.{Queue, Semaphore, Room, Credit, Files, Channel}
 use Rattle.fak_handles.specs.declared.padded_handle.PaddedHandle.{PaddedHandle}
 
 -- the handles below this index are empty

@@ -32,7 +32,7 @@ use Rattle.fak_queue.proofs.Accounts.{kinds_foreign}
 use Rattle.fak_queue.proofs.Sleepers.{few_words, word_else}
 use Rattle.fak_queue.proofs.WordWrites.{below_word, full_word, shut_above, open_below, only_shut, only_below, only_full, only_positive, only_empty, positive_word, empty_word}
 use Rattle.fak_queue.proofs.Stepping.{QueueTable, queue_law, Permits, one_of, stands, loaded, upper_bounds, upper_most, upper_shut, upper_open, upper_past, lower_past}
-use Rattle.fak_queue.proofs.Common.{Alike, UpperCount, LowerCount, IsUpperCount, IsLowerCount, QueueLimits, AreWords, QueueView, QueueHolder, queue_object, IsShownQueue, IsEncoded, Leaves, TellsNothing, ◌≡◌, ◌≢◌, ℕ, ◌+◌, ◌*◌, ◌/◌, ◌<◌, ◌≤◌, List, [], ◌∷◌, length, slice_index, set, refl, sym, ap, ◌∙◌, subst, inl, inr, arith, length-set, bit_or, Some, Bool, true, false, ℤ, pos, reverse, true_or_false, some, get_elem?, In, sight, keeps, stepped, steps, upper_count, lower_count, Mark, kept, with_at, Has, Close, has_back, has_reverse, ints, common_steps}
+use Rattle.fak_queue.proofs.Common.{Alike, UpperCount, LowerCount, IsUpperCount, IsLowerCount, QueueLimits, AreWords, QueueView, QueueHolder, queue_object, IsShownQueue, IsEncoded, Leaves, TellsNothing, ◌≡◌, ◌≢◌, ℕ, ◌+◌, ◌*◌, ◌/◌, ◌<◌, ◌≤◌, List, [], ◌∷◌, length, slice_index, set, refl, sym, ap, ◌∙◌, subst, inl, inr, arith, length-set, bit_or, Some, Bool, true, false, ℤ, pos, reverse, true_or_false, some, get_elem?, In, sight, keeps, stepped, upper_count, lower_count, Mark, kept, with_at, Has, Close, has_back, has_reverse, ints, common_steps}
 
 -- ---- a bit of a word
 

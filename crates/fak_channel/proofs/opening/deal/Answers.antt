@@ -1,5 +1,5 @@
-use Rattle.std.proofs.Common.{◌≡◌, ℕ, ◌+◌, ◌++◌, Some, None, [], ◌∷◌, ap, ◌∙◌, sym, subst, arith}
-use Rattle.fak_queue.specs.SleeperSeats.{SleeperInfo, UndealtInfo, DealsNext, fresh_sleeper, undealt_info}
+use Rattle.std.proofs.Common.{◌≡◌, ℕ, ◌+◌, ◌++◌, Some, None, [], ◌∷◌, ap, ◌∙◌, subst, arith}
+use Rattle.fak_queue.specs.SleeperSeats.{SleeperInfo, UndealtInfo, DealsNext, fresh_sleeper}
 use Rattle.fak_channel.specs.Undealt.{dealt}
 use Rattle.fak_channel.proofs.Deals.{dealt_next}
 use Rattle.fak_channel.proofs.opening.deal.Goals as goal

@@ -1,4 +1,4 @@
-use Rattle.std.proofs.Common.{◌≡◌, ap, sym, ◌∙◌, subst}
+use Rattle.std.proofs.Common.{ap, sym, ◌∙◌, subst}
 use Rattle.fak_channel.specs.declared.standing.ChannelStep.TheVariants.{GoesOn}
 use Rattle.fak_channel.specs.declared.standing.Looks.{Looks}
 use Rattle.fak_channel.specs.Moves.{LooksOnce, looks_for}

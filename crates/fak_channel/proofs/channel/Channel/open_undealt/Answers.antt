@@ -1,4 +1,4 @@
-use Rattle.std.proofs.Common.{◌≡◌, ◌<◌, ◌^◌, ap, sym, ◌∙◌, length, arith, pos}
+use Rattle.std.proofs.Common.{◌<◌, ◌^◌, ap, sym, ◌∙◌, length, arith, pos}
 use Rattle.std.proofs.lemmas.Int.{to_z_pos}
 use Rattle.std.specs.Int.{w64}
 use Rattle.fak_queue.specs.SleeperSeats.{fresh_sleeper}

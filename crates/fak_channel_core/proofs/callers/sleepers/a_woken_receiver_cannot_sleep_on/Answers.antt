@@ -1,4 +1,4 @@
-use Rattle.std.specs.Prelude.{◌≡◌, Bool, true, false}
+use Rattle.std.specs.Prelude.{true}
 use Rattle.std.proofs.Common.{sym, ◌∙◌, true≢false}
 use Rattle.fak_channel_core.proofs.callers.sleepers.a_woken_receiver_cannot_sleep_on.Goals as goal
 

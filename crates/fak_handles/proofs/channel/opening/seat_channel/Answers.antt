@@ -1,4 +1,4 @@
-use Rattle.std.proofs.Common.{◌≡◌, ◌+◌, ◌-◌, length, rules, refl, arith, ap, sym, ◌∙◌, subst, length-set, Some}
+use Rattle.std.proofs.Common.{◌≡◌, ◌+◌, ◌-◌, length, rules, arith, ap, sym, ◌∙◌, subst, length-set, Some}
 use Rattle.std.specs.Arc.{arc_value}
 use Rattle.fak_channel.specs.Standings.{IsSeatOf}
 use Rattle.fak_channel.specs.declared.channel.Channel.{Channel as ChannelInfo}
