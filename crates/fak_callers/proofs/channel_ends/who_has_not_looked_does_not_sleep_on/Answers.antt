@@ -1,4 +1,4 @@
-use Rattle.std.specs.Prelude.{◌≡◌, ℕ, List, ◌∷◌, length}
+use Rattle.std.specs.Prelude.{◌≡◌, List, ◌∷◌, length}
 use Rattle.std.proofs.Common.{arith, ap, sym, ◌∙◌}
 use Rattle.fak_callers.proofs.channel_ends.who_has_not_looked_does_not_sleep_on.Goals as goal
 
