@@ -3,7 +3,7 @@
 ghost use Rattle.std.specs.Prelude.{IsTrue};
 ghost use Rattle.fak_handles.specs.channel.Lending.{NobodyWaitsInVain};
 
-use crate::channel::lending::{Lending, Loan};
+use crate::channel::lending::{BorrowOutcome, Lending};
 
 /// A call of a lending.
 #[derive(Drop)]
@@ -42,16 +42,16 @@ pub fn the_second_caller_gets_the_only_end(lending: &mut Lending) -> bool
     if !lending.open(1) {
         return false;
     }
-    let Loan::Lent(number) = lending.borrow(false) else {
+    let BorrowOutcome::Lent(number) = lending.borrow(false) else {
         return false;
     };
-    let Loan::Waits = lending.borrow(true) else {
+    let BorrowOutcome::Waits = lending.borrow(true) else {
         return false;
     };
     let Some(true) = lending.give_back(number) else {
         return false;
     };
-    let (Loan::Lent(again), false) = lending.look_again(true) else {
+    let (BorrowOutcome::Lent(again), false) = lending.look_again(true) else {
         return false;
     };
     let Some(false) = lending.give_back(again) else {
@@ -67,19 +67,20 @@ pub fn a_worn_end_wakes_both_callers(lending: &mut Lending) -> bool
     if !lending.open(1) {
         return false;
     }
-    let Loan::Lent(number) = lending.borrow(false) else {
+    let BorrowOutcome::Lent(number) = lending.borrow(false) else {
         return false;
     };
-    let (Loan::Waits, Loan::Waits) = (lending.borrow(true), lending.borrow(true)) else {
+    let (BorrowOutcome::Waits, BorrowOutcome::Waits) = (lending.borrow(true), lending.borrow(true))
+    else {
         return false;
     };
     let Some(true) = lending.retire(number) else {
         return false;
     };
-    let (Loan::Worn, true) = lending.look_again(true) else {
+    let (BorrowOutcome::Worn, true) = lending.look_again(true) else {
         return false;
     };
-    let (Loan::Worn, false) = lending.look_again(true) else {
+    let (BorrowOutcome::Worn, false) = lending.look_again(true) else {
         return false;
     };
     true

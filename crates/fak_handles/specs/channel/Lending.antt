@@ -3,8 +3,8 @@ use Rattle.std.specs.Prelude.{◌≡◌, ◌≢◌, ◌⊎◌, ℕ, zero, suc, �
 use Rattle.std.specs.Int.{bit_at}
 use Rattle.fak_model.specs.Limits.{IsLargeNumberOfSeats}
 use Rattle.fak_handles.specs.declared.channel.lending.Lending.{Lending}
-use Rattle.fak_handles.specs.declared.channel.lending.Loan.{Loan}
-use Rattle.fak_handles.specs.declared.channel.lending.Loan.TheVariants.{Lent, Worn, GivenUp, Waits}
+use Rattle.fak_handles.specs.declared.channel.lending.BorrowOutcome.{BorrowOutcome}
+use Rattle.fak_handles.specs.declared.channel.lending.BorrowOutcome.TheVariants.{Lent, Worn, GivenUp, Waits}
 
 -- bit k of these words, 0 or 1
 abbrev pub bit_of : List ℕ → ℕ → ℕ
@@ -98,7 +98,7 @@ AllAreWorn l = NoneIsIdle l × AreWorn l
 abbrev pub AllAreLent : Lending → Type 0
 AllAreLent l = NoneIsIdle l × ¬ AreWorn l
 
-abbrev pub Borrows : Bool → Loan → Lending → Lending → Type 0
+abbrev pub Borrows : Bool → BorrowOutcome → Lending → Lending → Type 0
 Borrows may_wait (Lent k) l m = Takes k l m × SameCallers l m
 Borrows may_wait Worn l m = AllAreWorn l × (m ≡ l)
 Borrows may_wait GivenUp l m = (may_wait ≡ false) × AllAreLent l × (m ≡ l)
@@ -114,7 +114,7 @@ pub record SameIdle (l m : Lending) : Type 0 where
   pub idle : m.idle ≡ l.idle
   pub count : m.count ≡ l.count
 
-abbrev pub LooksAgain : Bool → Loan → Bool → Lending → Lending → Type 0
+abbrev pub LooksAgain : Bool → BorrowOutcome → Bool → Lending → Lending → Type 0
 LooksAgain in_time (Lent k) wakes l m = Takes k l m × StopsWaiting wakes l m
 LooksAgain in_time Worn wakes l m = AllAreWorn l × SameIdle l m × (m.worn ≡ l.worn) × StopsWaiting wakes l m
 LooksAgain in_time GivenUp wakes l m = (in_time ≡ false) × AllAreLent l × (wakes ≡ false) × (m ≡ record l { waiting = l.waiting - 1; woken = 0 })
@@ -149,14 +149,14 @@ pub record IsAtRest (l : Lending) : Type 0 where
 
 -- ---- the results as codes: 0 is done, 5 worn, 7 refused, 13 waits, 14 given up
 
-abbrev pub loan_code : Loan → ℤ
+abbrev pub loan_code : BorrowOutcome → ℤ
 loan_code (Lent k) = pos 0
 loan_code Worn = pos 5
 loan_code GivenUp = pos 14
 loan_code Waits = pos 13
 
 -- the number that is written
-abbrev pub lent_or : ℕ → Loan → ℕ
+abbrev pub lent_or : ℕ → BorrowOutcome → ℕ
 lent_or number (Lent k) = k
 lent_or number _ = number
 
@@ -175,13 +175,13 @@ abbrev pub OpensLending : ℤ → ℕ → Lending → Lending → Type 0
 OpensLending code count l m = ((code ≡ pos 0) × IsLargeNumberOfSeats count × IsOpened count m) ⊎ ((code ≡ pos 8) × ¬ IsLargeNumberOfSeats count × (m ≡ l))
 
 pub record LendsAs (code : ℤ) (may_wait : Bool) (number number' : ℕ) (l m : Lending) : Type 0 where
-  pub loan : Loan
+  pub loan : BorrowOutcome
   pub code_is : code ≡ loan_code loan
   pub number_is : number' ≡ lent_or number loan
   pub call : Borrows may_wait loan l m
 
 pub record LendsAfterPark (code : ℤ) (in_time : Bool) (number number' : ℕ) (wakes : Bool) (l m : Lending) : Type 0 where
-  pub loan : Loan
+  pub loan : BorrowOutcome
   pub code_is : code ≡ loan_code loan
   pub number_is : number' ≡ lent_or number loan
   pub call : LooksAgain in_time loan wakes l m

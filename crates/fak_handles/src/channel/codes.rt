@@ -5,7 +5,7 @@ ghost use Rattle.std.specs.Prelude.{◌≡◌};
 ghost use Rattle.fak_handles.specs.channel.Calls.{begin_close_code, begin_receive_code, begin_send_code, channel_state_code, give_up_code, given_up_or, roused_or, step_code, stepped_or};
 ghost use Rattle.fak_handles.specs.channel.Lending.{lent_or, loan_code, return_code, wakes_or};
 
-use crate::channel::lending::Loan;
+use crate::channel::lending::BorrowOutcome;
 use crate::channel::seat::Item;
 use crate::code::{CLOSED, EMPTY, FULL, GAVE_UP, NOT_YET, OK, SLEEPS, WAKES, WORN, WRONG_STATE};
 use fak_channel::{ChannelState, ChannelStep, ChannelWorn, Outcome, ReceiveFault, SendFault, Wish};
@@ -106,18 +106,18 @@ pub fn of_channel_state(state: ChannelState) -> u32
 }
 
 /// Writes the number of an end that was lent.
-pub fn of_loan(loan: &Loan, number: &mut u64) -> i32
+pub fn of_loan(loan: &BorrowOutcome, number: &mut u64) -> i32
     ensures code { result ≡ loan_code loan.now }
     ensures number { number.new ≡ lent_or number.old loan.now }
 {
     match loan {
-        Loan::Lent(lent) => {
+        BorrowOutcome::Lent(lent) => {
             *number = *lent;
             OK
         }
-        Loan::Worn => WORN,
-        Loan::GivenUp => GAVE_UP,
-        Loan::Waits => SLEEPS,
+        BorrowOutcome::Worn => WORN,
+        BorrowOutcome::GivenUp => GAVE_UP,
+        BorrowOutcome::Waits => SLEEPS,
     }
 }
 

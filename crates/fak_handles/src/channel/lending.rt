@@ -25,7 +25,7 @@ pub struct Lending {
 
 /// What a caller is told that asks for an end.
 #[derive(Drop)]
-pub enum Loan {
+pub enum BorrowOutcome {
     /// It has borrowed the end of this number.
     Lent(u64),
     /// All ends have used up their stint.
@@ -128,43 +128,43 @@ impl Lending {
     }
 
     /// Asks for an end. If none is idle and the caller may wait, it is counted as waiting.
-    pub fn borrow(&mut self, may_wait: bool) -> Loan
+    pub fn borrow(&mut self, may_wait: bool) -> BorrowOutcome
         ensures loan { Borrows may_wait result self.old self.new }
         ensures law { NobodyWaitsInVain self.old → NobodyWaitsInVain self.new }
     {
         if let Some(number) = self.take_idle() {
-            return Loan::Lent(number);
+            return BorrowOutcome::Lent(number);
         }
         if self.worn >= self.count {
-            return Loan::Worn;
+            return BorrowOutcome::Worn;
         }
         if !may_wait {
-            return Loan::GivenUp;
+            return BorrowOutcome::GivenUp;
         }
         self.waiting = self.waiting.saturating_add(1);
-        Loan::Waits
+        BorrowOutcome::Waits
     }
 
     /// Looks again for an end, by a caller that waits and was parked. If it is in time, it may park again. The second part says whether
     /// another caller is to be woken.
-    pub fn look_again(&mut self, in_time: bool) -> (Loan, bool)
+    pub fn look_again(&mut self, in_time: bool) -> (BorrowOutcome, bool)
         ensures loan { LooksAgain in_time result.0 result.1 self.old self.new }
         ensures law { NobodyWaitsInVain self.new }
     {
         self.woken = 0;
         if let Some(number) = self.take_idle() {
             self.waiting = self.waiting.saturating_sub(1);
-            return (Loan::Lent(number), self.wakes());
+            return (BorrowOutcome::Lent(number), self.wakes());
         }
         if self.worn >= self.count {
             self.waiting = self.waiting.saturating_sub(1);
-            return (Loan::Worn, self.wakes());
+            return (BorrowOutcome::Worn, self.wakes());
         }
         if in_time {
-            return (Loan::Waits, false);
+            return (BorrowOutcome::Waits, false);
         }
         self.waiting = self.waiting.saturating_sub(1);
-        (Loan::GivenUp, false)
+        (BorrowOutcome::GivenUp, false)
     }
 
     /// Gives back a lent end. `None` if it is not lent. Else whether a waiting caller is to be woken.
