@@ -27,7 +27,7 @@
  *
  * Never sleep on a refusal of a try by means of your own (fak_c.h): the calls below that sleep do it right.
  *
- * What the calls use. Stack: below 512 bytes in a step; below 8,192 in fak_channel_open. The calls of ends and of a shared channel add
+ * What the calls use. Stack: below 768 bytes in a step; below 8,192 in fak_channel_open. The calls of ends and of a shared channel add
  * below 512 bytes. Heap: what "Sizes" below says; only calls that open allocate. Processor time: a sleeping thread uses none. Before it
  * sleeps on a futex, a thread looks for a wake-up for some microseconds.
  *
@@ -68,8 +68,8 @@ static inline void *fak_channel_pointer_of(const fak_channel_item *item) {
  *
  * The bytes that a channel with n ends and `size` cells keeps of the heap, and those of a block (block.h) that it opens in. Ends that
  * sleep on futexes keep 64 bytes each besides, and 64 together. */
-#define FAK_CHANNEL_KEEPS(n, size) (3264 + 1200 * (size_t)(n) + 48 * (size_t)(size))
-#define FAK_CHANNEL_BYTES(n, size) (6272 + 2176 * (size_t)(n) + 96 * (size_t)(size))
+#define FAK_CHANNEL_KEEPS(n, size) (896 + 800 * (size_t)(n) + 48 * (size_t)(size))
+#define FAK_CHANNEL_BYTES(n, size) (1856 + 952 * (size_t)(n) + 96 * (size_t)(size))
 
 /* ---- Ends ----
  *

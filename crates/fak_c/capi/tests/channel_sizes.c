@@ -100,6 +100,6 @@ int main(void) {
             keeps(n, sizes[i]);
     printf("stack: %zu bytes in a call that opens, %zu in fak_c_leave, %zu in others, %zu in those of ends\n", opening, leaving, other,
         by_ends);
-    CHECK(opening < 8192 && leaving < 4608 && other < 512 && by_ends < 512 + 512);
+    CHECK(opening < 8192 && leaving < 4608 && other < 768 && by_ends < 768 + 512);
     return 0;
 }
