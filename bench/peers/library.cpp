@@ -115,13 +115,13 @@ public:
 private:
     void pause(unsigned thread) {
         if (pauses && Calls::pause(&seats[thread]) != FAK_C_OK)
-            fail("fak_c_pause: the library answered what it must not here");
+            fail("fak_c_pause: the library returned a code that it must not return here");
     }
 
     /* Whether the call was made. Only this one refusal may come instead. */
     static bool is_ok(std::int32_t answer, std::int32_t refusal) {
         if (answer != FAK_C_OK && answer != refusal)
-            fail("the library answered what it must not here");
+            fail("the library returned a code that it must not return here");
         return answer == FAK_C_OK;
     }
 
@@ -174,7 +174,7 @@ public:
 private:
     static unsigned ended(std::int32_t code, std::uint64_t claimed) {
         if (code != FAK_C_OK)
-            fail("the library answered a burst what it must not here");
+            fail("the library returned a code that it must not return for a burst");
         return static_cast<unsigned>(claimed);
     }
 

@@ -17,7 +17,7 @@ static const struct { const char *name; picos *time; const char *meaning; } time
     { "--held", &costs.held, "how long a line that was asked for stays usable where it is" },
     { "--memory", &costs.memory, "the memory serves one request for a line" },
     { "--stage", &costs.stage, "a switch of the network passes a request on" },
-    { "--work", &costs.work, "what a call does beside its accesses, on average" },
+    { "--work", &costs.work, "what a call does besides its accesses, on average" },
     { "--pause", &costs.pause, "one pause of a processor that waits" },
     { "--seat-pause", &costs.seat_pause, "a seat leaves the queue to others" },
 };

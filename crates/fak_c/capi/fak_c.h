@@ -40,8 +40,9 @@
  *
  * For kernels there are two archives with the same calls: one that LLVM compiled, and one that Rattle's own compiler compiled. The first
  * uses SSE registers in any call, also if its caller is compiled without them; the second only in calls that open or free an object.
- * README says what each contains. Both need these functions, and no others: rattle_alloc, rattle_realloc and rattle_dealloc, from
- * libfak_c_heap.a over malloc, realloc and free, or from block.c over memory of your own. The first archive also needs memcpy and memset.
+ * The README of an installed prefix says what each contains. Both need these functions, and no others: rattle_alloc, rattle_realloc and
+ * rattle_dealloc, from libfak_c_heap.a over malloc, realloc and free, or from block.c over memory of your own. The first archive also needs
+ * memcpy and memset.
  *
  * What the calls use, except those of a channel (fak_channel.h). Stack: below 256 bytes; below 768 in a burst; below 4,608 in
  * fak_c_leave; below 6,144 in a call that opens. Heap: what "Sizes" below says, and more while an object is opened (block.h). Time: to
