@@ -7,6 +7,7 @@ use Rattle.fak_model.specs.declared.queue.Mark.{Mark}
 use Rattle.fak_model.specs.Calls.{SeatInfo}
 use Rattle.fak_model.specs.Queue.{items_put, item_at}
 use Rattle.fak_channel_core.specs.SleeperMoves.{Account}
+use Rattle.fak_queue.specs.Drained.{IsDrained}
 use Rattle.fak_queue.specs.Queues.{Makes, Fills, Takes, ShutsAs, drawn_by}
 use Rattle.fak_queue.specs.SleeperRest.{marks_by}
 use Rattle.fak_queue.specs.Sleepers.{as_role}
@@ -28,8 +29,8 @@ use Rattle.fak_channel.specs.declared.standing.Wish.TheVariants.{Send, Receive}
 use Rattle.fak_channel.specs.Standings.{IsStepSeatOf, StandsSo, OwesNone, role_of, ticket_in}
 use Rattle.fak_channel.specs.Moves.{Look, Check, None_owed, looks_for, with_next, checked, refused_next, Calls, LoadsWord, passes, goes_round, finds, ClearsBit, LooksOnce, ClaimsRoom, room_granted, found_full, found_closed, ClaimsItem, item_granted, found_empty, FillsCell, WaitsForRoom, TakesItem, WaitsForItem, ChecksEmpty, found_drained, found_none, TestsRoom, sender_sleeps, room_came, TestsItem, no_item_yet, item_came, TestsDrained, receiver_sleeps, drained_meanwhile, OnlyStands, ShutsQueue, MovesNext, ChecksOnce, MovesBy, Moves}
 use Rattle.fak_channel.specs.Channels.{NotesMore, HasFallenAsleep, HasTakenBack, slept}
-use Rattle.fak_channel.specs.Marks.{Looked, HasFoundFull, HasFoundEmpty}
-use Rattle.fak_channel.specs.ChannelSteps.{Asked, Sending, Receiving, Closing, WaitsSince, RefusedSince, InsertsAs, DeletesAs, ShutsSince, EndsAs, SinceAt, CallSince, StepsTo}
+use Rattle.fak_channel.specs.Marks.{Looked, HasFoundFull, HasFoundEmpty, WasNotDrained}
+use Rattle.fak_channel.specs.ChannelSteps.{Asked, Sending, Receiving, Closing, WaitsSince, RefusedSince, TriedSince, InsertsAs, DeletesAs, ShutsSince, EndsAs, SinceAt, CallSince, StepsTo}
 use Rattle.fak_channel.proofs.Marking.{looked_more, put_on, full_again, full_more, empty_again, empty_more, claimed_in, looked_in, claimed_out, looked_out, deleted_out, inserted_at_last, closed_at_last}
 
 -- ---- notes
@@ -99,6 +100,11 @@ module _ {T : Type 0} (size : ℕ) (asked : Asked T) (began old new : ChannelSea
         by Receiving Receive p = empty_more p makes
         by Closing w p = absurd p
 
+    -- the same of a try
+    tried_on : (w : Wish T) → drawn_by new.queue.seat ≡ drawn_by old.queue.seat → TriedSince size asked began w old → TriedSince size asked began w new
+    tried_on (Send y) drawn h = refused_on (Send y) drawn h
+    tried_on Receive drawn h = (refused_on Receive drawn h.0, record { found = h.1.found; empty = h.1.empty; not_drained = h.1.not_drained; looks = looked_more h.1.looks makes })
+
     ended_on : (o : Outcome T) → EndsAs size asked o began old → EndsAs size asked o began new
     ended_on o h = by asked o h
       where
@@ -137,7 +143,7 @@ module _ {T : Type 0} (size : ℕ) (asked : Asked T) (began old new : ChannelSea
     owing_since TestingDrained s q g drawn owes so h = absurd (owes so.stands.none)
     owing_since (TakingBack w) s q g drawn owes so h = absurd (owes so.stands.none)
     owing_since (Sleeping w) s q g drawn owes so h = absurd (owes so.stands.none)
-    owing_since (Refusing w) s q g drawn owes so h = refused_on w drawn h
+    owing_since (Refusing w) s q g drawn owes so h = tried_on w drawn h
     owing_since (Refused w) s q g drawn owes so h = absurd (owes so.stands.none)
     owing_since Shutting s q g drawn owes so h = absurd (owes so.none)
     owing_since (Ending o) s q g drawn owes so h = ended_on o h
@@ -209,11 +215,11 @@ module _ {T : Type 0} (c : Channel T) (asked : Asked T) (began old new : Channel
   -- ---- what comes next
 
   -- a refused call either is a try or sets its bit
-  refused_to : (w : Wish T) → RefusedSince size asked began w new → SinceAt size (refused_next s w) asked began new
-  refused_to w h = by s.tries
+  refused_to : (w : Wish T) → RefusedSince size asked began w new → TriedSince size asked began w new → SinceAt size (refused_next s w) asked began new
+  refused_to w h tried = by s.tries
     where
       by : (tries : Bool) → SinceAt size (if tries then Refusing w else Registering w) asked began new
-      by true = h
+      by true = tried
       by false = h
 
   room_since : (x : T) → WaitsSince size asked began (Send x) old → ClaimsRoom c old new x → CallSince size asked began new
@@ -223,7 +229,7 @@ module _ {T : Type 0} (c : Channel T) (asked : Asked T) (began old new : Channel
       by (Sending y) p = subst (λ (z : T). InsertsAs size (Sending z) began new) p.0 (record { before = old.queue.seat; full = p.1; ticket = k; claimed = claimed_in claims; state = state })
       by Receiving p = absurd p
       by Closing p = absurd p
-  room_since x h (found_full upper withdraws was refuses makes stands) = by_standing _ stands (called was.calls) (refused_to (Send x) (by asked h))
+  room_since x h (found_full upper withdraws was refuses makes stands) = by_standing _ stands (called was.calls) (let refused = by asked h in refused_to (Send x) refused refused)
     where
       by : (a : Asked T) → WaitsSince size a began (Send x) old → RefusedSince size a began (Send x) new
       by (Sending y) p = (p.0, full_again p.1 was.within was.drawn refuses)
@@ -284,6 +290,15 @@ module _ {T : Type 0} (c : Channel T) (asked : Asked T) (began old new : Channel
       by Receiving p = record { before = p.before; empty = p.empty; ticket = p.ticket; claimed = looked_out p.claimed m.waits.makes; state = m.same ∙ p.state }
       by Closing p = absurd p
 
+  -- a check has not found the queue drained
+  not_drained_since : RefusedSince size asked began Receive new → (IsDrained new.queue.seat.seen → ⊥) → TriedSince size asked began Receive new
+  not_drained_since h not_drained = (h, by asked h)
+    where
+      by : (a : Asked T) → RefusedSince size a began Receive new → WasNotDrained size began.queue.seat new.queue.seat
+      by (Sending y) p = absurd p
+      by Receiving p = record { found = new.queue.seat; empty = p; not_drained = not_drained; looks = inl refl }
+      by Closing p = absurd p
+
   empty_since : RefusedSince size asked began Receive old → ChecksEmpty c old new → CallSince size asked began new
   empty_since h (found_drained l stands) = by_standing _ stands (signed l.0) (by asked (refused_on size asked began old new l.0.makes Receive l.0.left h))
     where
@@ -291,7 +306,9 @@ module _ {T : Type 0} (c : Channel T) (asked : Asked T) (began old new : Channel
       by (Sending y) p = absurd p
       by Receiving p = record { found = new.queue.seat; empty = p; lawful = l.0.makes.lawful; drained = l.1; looks = inl refl }
       by Closing p = absurd p
-  empty_since h (found_none l stands) = by_standing _ stands (signed l.0) (refused_to Receive (refused_on size asked began old new l.0.makes Receive l.0.left h))
+  empty_since h (found_none l stands) =
+      let refused = refused_on size asked began old new l.0.makes Receive l.0.left h in
+      by_standing _ stands (signed l.0) (refused_to Receive refused (not_drained_since refused l.1))
 
   room_test_since : (x : T) → RefusedSince size asked began (Send x) old → TestsRoom c old new x → CallSince size asked began new
   room_test_since x h (sender_sleeps upper l full stands) = by_standing _ stands (signed l) (refused_on size asked began old new l.makes (Send x) l.left h, fallen Sender began.queue old.queue new.queue l since.notes)
@@ -316,6 +333,10 @@ module _ {T : Type 0} (c : Channel T) (asked : Asked T) (began old new : Channel
       by Receiving Receive p = inr p
       by Closing w p = absurd p
 
+  tried_refused : (w : Wish T) → TriedSince size asked began w old → RefusedSince size asked began w old
+  tried_refused (Send y) h = h
+  tried_refused Receive h = h.0
+
   own_since : (w : Wish T) (was_set : Bool) → RefusedSince size asked began w old → TakesBit size (role_of w) was_set old.queue new.queue → new.standing ≡ with_next (Claiming w) s → CallSince size asked began new
   own_since w true h l stands = by_standing _ stands (signed l) (waits_again w (refused_on size asked began old new l.makes w l.left h))
   own_since w false h l stands = by_standing _ stands (signed l) (waits_again w (refused_on size asked began old new l.makes w l.left h))
@@ -334,6 +355,10 @@ module _ {T : Type 0} (c : Channel T) (asked : Asked T) (began old new : Channel
         by Receiving (Send y) p = absurd p
         by Receiving Receive p = subst (HasFoundEmpty size began.queue.seat) (sym seat_same) p
         by Closing w p = absurd p
+
+    pub only_tried : (w : Wish T) → TriedSince size asked began w old → TriedSince size asked began w new
+    only_tried (Send y) h = only_refused (Send y) h
+    only_tried Receive h = (only_refused Receive h.0, subst (WasNotDrained size began.queue.seat) (sym seat_same) h.1)
 
     only_ended : (o : Outcome T) → EndsAs size asked o began old → EndsAs size asked o began new
     only_ended o h = by asked o h
@@ -433,10 +458,10 @@ module _ {T : Type 0} (c : Channel T) (asked : Asked T) (began old new : Channel
   next_since (Sleeping w) (Ends o) is h m = absurd m
   next_since (Refusing w) GoesOn is h m = absurd m
   next_since (Refusing w) NotYet is h m = absurd m
-  next_since (Refusing w) Sleeps is h m = only_since (Refused w) m (only_refused m.same w h)
+  next_since (Refusing w) Sleeps is h m = only_since (Refused w) m (only_tried m.same w h)
   next_since (Refusing w) (Wakes k) is h m = absurd m
   next_since (Refusing w) (Ends o) is h m = absurd m
-  next_since (Refused w) GoesOn is h m = only_since (Claiming w) m (waits_again w (only_refused m.same w h))
+  next_since (Refused w) GoesOn is h m = only_since (Claiming w) m (waits_again w (only_refused m.same w (tried_refused w h)))
   next_since (Refused w) NotYet is h m = absurd m
   next_since (Refused w) Sleeps is h m = absurd m
   next_since (Refused w) (Wakes k) is h m = absurd m

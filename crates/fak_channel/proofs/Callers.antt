@@ -30,10 +30,13 @@ module _ {T : Type 0} (size : ℕ) (old mid new : ChannelSeat T) where
 
   -- what was not asked does not come
   pub no_item_for_send : (is_try : Bool) (x : T) → BeginsAs size is_try (Sending x) old mid → RefusesAll size mid new Receive → ⊥
-  no_item_for_send is_try x begins all = all (Sending x) old begins.call
+  no_item_for_send is_try x begins all = (all (Sending x) old begins.call).0
 
   pub no_room_for_receive : (is_try : Bool) (y : T) → BeginsAs size is_try Receiving old mid → RefusesAll size mid new (Send y) → ⊥
   no_room_for_receive is_try y begins all = all Receiving old begins.call
 
-  pub wakes_refuses : (w : Wish T) → WakesNone size mid new w → RefusesAll size mid new w
-  wakes_refuses w none = λ asked began since. (none asked began since).0
+  pub no_item_for_late_send : (is_try : Bool) (x : T) → BeginsAs size is_try (Sending x) old mid → WakesNone size mid new Receive → ⊥
+  no_item_for_late_send is_try x begins none = (none (Sending x) old begins.call).0
+
+  pub no_room_for_late_receive : (is_try : Bool) (y : T) → BeginsAs size is_try Receiving old mid → WakesNone size mid new (Send y) → ⊥
+  no_room_for_late_receive is_try y begins none = (none Receiving old begins.call).0

@@ -12,7 +12,7 @@ use Rattle.fak_channel.specs.Channels.{HasTakenBack, HasFallenAsleep}
 use Rattle.fak_channel.specs.ChannelSteps.{Asked, RefusedSince, SinceAt, GivesUp, GivesUpFrom}
 use Rattle.fak_channel.specs.Moves.{FindsWake, TakesOwn, GivesUpSleep, OnlyStands, MovesNext, Moves, at_next, with_next}
 use Rattle.fak_channel.specs.Standings.{IsStepSeatOf, IsInCall, IsBetweenCalls, StandsSo, call_state, role_of}
-use Rattle.fak_channel.proofs.CallSteps.{moved_since, only_refused, refused_on, taken_back}
+use Rattle.fak_channel.proofs.CallSteps.{moved_since, only_tried, refused_on, taken_back}
 use Rattle.fak_channel.proofs.Following.{moved_follows, asleep_call}
 use Rattle.fak_channel.proofs.Transitions.{moved_stands, took_stands, refused_try_stands, next_moves}
 
@@ -56,7 +56,7 @@ module _ {T : Type 0} (c : Channel T) (old new : ChannelSeat T) (S : IsStepSeatO
     after = ap (λ (t : CallStanding T). call_state t.next) m.stands;
     tries = ap (λ (t : CallStanding T). t.tries) m.stands;
     call = λ asked began since.
-        subst (λ (x : Next T). GivesUpFrom c.queue.size x asked began new w) (sym is) (only_refused c asked began old new since m.same w (subst (λ (x : Next T). SinceAt c.queue.size x asked began old) is since.since));
+        subst (λ (x : Next T). GivesUpFrom c.queue.size x asked began new w) (sym is) (only_tried c asked began old new since m.same w (subst (λ (x : Next T). SinceAt c.queue.size x asked began old) is since.since));
   }
 
   -- the seat whose next was taken out

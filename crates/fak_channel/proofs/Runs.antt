@@ -13,7 +13,7 @@ use Rattle.fak_channel.specs.declared.standing.Outcome.{Outcome}
 use Rattle.fak_channel.specs.declared.standing.Wish.{Wish}
 use Rattle.fak_channel.specs.Standings.{IsStepSeatOf, IsInCall, IsAsleep, IsBetweenCalls, StandsSo, role_of}
 use Rattle.fak_channel.specs.Channels.{HasTakenBack}
-use Rattle.fak_channel.specs.ChannelSteps.{Asked, CallSince, RefusedSince, EndsAll, RefusesAll, WakesNone, StopsAt, GivesUp, GivesUpFrom, HasGoneOn, none, more}
+use Rattle.fak_channel.specs.ChannelSteps.{Asked, CallSince, RefusedSince, TriedSince, EndsAll, RefusesAll, WakesNone, StopsAt, GivesUp, GivesUpFrom, HasGoneOn, none, more}
 use Rattle.fak_channel.specs.Moves.{Moves}
 use Rattle.fak_channel.proofs.CallSteps.{moved_since}
 use Rattle.fak_channel.proofs.Following.{moved_follows, asleep_in_call}
@@ -88,25 +88,25 @@ module _ {T : Type 0} (c : Channel T) where
 
   -- ---- calls that are given up
 
-  -- from any state in which a call sleeps, each claim was refused
-  given_up : (x : Next T) (asked : Asked T) (began last : ChannelSeat T) (w : Wish T) → GivesUpFrom c.queue.size x asked began last w → RefusedSince c.queue.size asked began w last
-  given_up Idle asked began last w h = absurd h
-  given_up (Claiming v) asked began last w h = absurd h
-  given_up Inserting asked began last w h = absurd h
-  given_up Deleting asked began last w h = absurd h
-  given_up Checking asked began last w h = absurd h
-  given_up (Registering v) asked began last w h = absurd h
-  given_up (Testing v) asked began last w h = absurd h
-  given_up TestingDrained asked began last w h = absurd h
-  given_up (TakingBack v) asked began last w h = absurd h
-  given_up (Sleeping v) asked began last w h = h.0
-  given_up (Refusing v) asked began last w h = absurd h
-  given_up (Refused v) asked began last w h = h
-  given_up Shutting asked began last w h = absurd h
-  given_up (Ending o) asked began last w h = absurd h
+  -- of a try each claim was refused
+  tried : (x : Next T) (s : CallStanding T) (q : SleeperInfo T) (g : Account) → s.tries ≡ true → StandsSo x s q g → (asked : Asked T) (began last : ChannelSeat T) (w : Wish T) → GivesUpFrom c.queue.size x asked began last w → TriedSince c.queue.size asked began w last
+  tried Idle s q g is_try so asked began last w h = absurd h
+  tried (Claiming v) s q g is_try so asked began last w h = absurd h
+  tried Inserting s q g is_try so asked began last w h = absurd h
+  tried Deleting s q g is_try so asked began last w h = absurd h
+  tried Checking s q g is_try so asked began last w h = absurd h
+  tried (Registering v) s q g is_try so asked began last w h = absurd h
+  tried (Testing v) s q g is_try so asked began last w h = absurd h
+  tried TestingDrained s q g is_try so asked began last w h = absurd h
+  tried (TakingBack v) s q g is_try so asked began last w h = absurd h
+  tried (Sleeping v) s q g is_try so asked began last w h = absurd (let f : true ≡ false = sym is_try ∙ so.tries in cc)
+  tried (Refusing v) s q g is_try so asked began last w h = absurd h
+  tried (Refused v) s q g is_try so asked began last w h = h
+  tried Shutting s q g is_try so asked began last w h = absurd h
+  tried (Ending o) s q g is_try so asked began last w h = absurd h
 
-  pub refused_all : (old mid last : ChannelSeat T) (w : Wish T) → Continues c old mid → GivesUp c.queue.size mid last (Some w) → RefusesAll c.queue.size old last w
-  refused_all old mid last w k gives = λ asked began since. given_up mid.standing.next asked began last w (gives asked began (k.since asked began since))
+  pub refused_all : (old mid last : ChannelSeat T) (w : Wish T) → Continues c old mid → old.standing.tries ≡ true → GivesUp c.queue.size mid last (Some w) → RefusesAll c.queue.size old last w
+  refused_all old mid last w k is_try gives = λ asked began since. tried mid.standing.next mid.standing mid.queue (account_of_seat mid.queue) (k.tries ∙ is_try) k.stands.next asked began last w (gives asked began (k.since asked began since))
 
   -- one that is no try has slept
   slept : (x : Next T) (s : CallStanding T) (q : SleeperInfo T) (g : Account) → s.tries ≡ false → StandsSo x s q g → (asked : Asked T) (began last : ChannelSeat T) (w : Wish T) → GivesUpFrom c.queue.size x asked began last w → RefusedSince c.queue.size asked began w last × HasTakenBack (role_of w) began.queue last.queue
@@ -130,6 +130,6 @@ module _ {T : Type 0} (c : Channel T) where
 
 -- ---- steps that each go on
 
-pub gone_on : {T : Type 0} (c : Channel T) (old now : ChannelSeat T) → IsStepSeatOf c old → IsInCall old → HasGoneOn c old now → Continues c old now
-gone_on c old _ stands in_call none = begins_run c old stands in_call
-gone_on c old _ stands in_call (more mid now steps last) = goes_on c old mid now (gone_on c old mid stands in_call steps) last
+pub gone_on : {T : Type 0} (c : Channel T) (old : ChannelSeat T) (taken : ℕ) (now : ChannelSeat T) → IsStepSeatOf c old → IsInCall old → HasGoneOn c old taken now → Continues c old now
+gone_on c old _ _ stands in_call none = begins_run c old stands in_call
+gone_on c old _ _ stands in_call (more taken mid now steps last) = goes_on c old mid now (gone_on c old taken mid stands in_call steps) last

@@ -1,5 +1,5 @@
 -- Calls of a channel by steps that never wait: what an open call has done so far, and how it ends.
-use Rattle.std.specs.Prelude.{◌≡◌, ℕ, Bool, true, false, [], Option, Some, None, pos, ◌≤ℤ◌}
+use Rattle.std.specs.Prelude.{◌≡◌, ◌+◌, ◌<◌, ℕ, Bool, true, false, [], Option, Some, None, pos, ◌≤ℤ◌}
 use Rattle.fak_model.specs.declared.queue.Kind.TheVariants.{Close}
 use Rattle.fak_model.specs.declared.queue.Mark.{Mark}
 use Rattle.fak_model.specs.Calls.{SeatInfo}
@@ -24,7 +24,7 @@ use Rattle.fak_channel.specs.declared.standing.Outcome.TheVariants as outcome
 use Rattle.fak_channel.specs.declared.standing.Wish.{Wish}
 use Rattle.fak_channel.specs.declared.standing.Wish.TheVariants.{Send, Receive}
 use Rattle.fak_channel.specs.Standings.{IsBetweenCalls, IsInCall, IsAsleep, role_of}
-use Rattle.fak_channel.specs.Marks.{HasFoundFull, FullSoFar, HasFoundEmpty, EmptySoFar, HasClaimedIn, HasClaimedOut, HasMade}
+use Rattle.fak_channel.specs.Marks.{HasFoundFull, FullSoFar, HasFoundEmpty, EmptySoFar, HasClaimedIn, HasClaimedOut, HasMade, WasNotDrained}
 use Rattle.fak_channel.specs.Channels.{IsSpent, OnlyLooks, NotesMore, HasFallenAsleep, HasTakenBack, Sends, Receives, FindsClosed, IsOver, ClosesAs}
 use Rattle.fak_channel.specs.Moves.{Moves}
 
@@ -52,6 +52,11 @@ module _ {T : Type 0} (size : ℕ) where
   RefusedSince Receiving began (Send y) s = ⊥
   RefusedSince Receiving began Receive s = HasFoundEmpty size began.queue.seat s.queue.seat
   RefusedSince Closing began w s = ⊥
+
+  -- the same of a try; and after a claim of an item the channel was not drained
+  abbrev pub TriedSince : Asked T → ChannelSeat T → Wish T → ChannelSeat T → Type 0
+  TriedSince asked began (Send y) s = RefusedSince asked began (Send y) s
+  TriedSince asked began Receive s = RefusedSince asked began Receive s × WasNotDrained size began.queue.seat s.queue.seat
 
   pub record InsertsSince (x : T) (began s : ChannelSeat T) : Type 0 where
     pub before : SeatInfo (Mark T)
@@ -108,8 +113,8 @@ module _ {T : Type 0} (size : ℕ) where
   SinceAt TestingDrained asked began s = RefusedSince asked began Receive s
   SinceAt (TakingBack w) asked began s = RefusedSince asked began w s
   SinceAt (Sleeping w) asked began s = RefusedSince asked began w s × HasFallenAsleep (role_of w) began.queue s.queue
-  SinceAt (Refusing w) asked began s = RefusedSince asked began w s
-  SinceAt (Refused w) asked began s = RefusedSince asked began w s
+  SinceAt (Refusing w) asked began s = TriedSince asked began w s
+  SinceAt (Refused w) asked began s = TriedSince asked began w s
   SinceAt Shutting asked began s = ShutsSince asked began s
   SinceAt (Ending o) asked began s = EndsAs asked o began s
 
@@ -132,7 +137,7 @@ module _ {T : Type 0} (size : ℕ) where
   -- a call that was given up: a try after its claim was refused; another after it slept, was not woken, and took its bit back
   abbrev pub GivesUpFrom : Next T → Asked T → ChannelSeat T → ChannelSeat T → Wish T → Type 0
   GivesUpFrom (Sleeping v) asked began new w = RefusedSince asked began w new × HasTakenBack (role_of w) began.queue new.queue
-  GivesUpFrom (Refused v) asked began new w = RefusedSince asked began w new
+  GivesUpFrom (Refused v) asked began new w = TriedSince asked began w new
   GivesUpFrom _ asked began new w = ⊥
 
   -- a call is given up, or it had been woken before and goes on
@@ -150,9 +155,9 @@ module _ {T : Type 0} (size : ℕ) where
   abbrev pub EndsAll : ChannelSeat T → ChannelSeat T → Outcome T → Type 0
   EndsAll old new o = (asked : Asked T) (began : ChannelSeat T) → CallSince asked began old → EndsAs asked o began new
 
-  -- each claim was refused
+  -- a try of which each claim was refused
   abbrev pub RefusesAll : ChannelSeat T → ChannelSeat T → Wish T → Type 0
-  RefusesAll old new w = (asked : Asked T) (began : ChannelSeat T) → CallSince asked began old → RefusedSince asked began w new
+  RefusesAll old new w = (asked : Asked T) (began : ChannelSeat T) → CallSince asked began old → TriedSince asked began w new
 
   -- each claim was refused; the seat fell asleep, nobody woke it, and it took its bit back
   abbrev pub WakesNone : ChannelSeat T → ChannelSeat T → Wish T → Type 0
@@ -174,7 +179,7 @@ module _ {T : Type 0} (size : ℕ) where
   abbrev pub RefusesBeginTrySend : T → ChannelSeat T → ChannelSeat T → SendFault T → Type 0
   RefusesBeginTrySend x old new (sending.Worn y) = (y ≡ x) × IsSpent old × (new ≡ old)
   RefusesBeginTrySend x old new (sending.Closed y) = (y ≡ x) × OnlyLooks size old new × Has Close new.queue.seat.seen
-  RefusesBeginTrySend x old new (sending.Full y) = (y ≡ x) × OnlyLooks size old new × (pos size ≤ℤ upper_count new.queue.seat.seen)
+  RefusesBeginTrySend x old new (sending.Full y) = (y ≡ x) × OnlyLooks size old new × (pos size ≤ℤ upper_count new.queue.seat.seen) × (Has Close new.queue.seat.seen → ⊥)
   RefusesBeginTrySend x old new (sending.TimedOut y) = ⊥
 
   abbrev pub RefusesBeginTryReceive : ChannelSeat T → ChannelSeat T → ReceiveFault → Type 0
@@ -191,17 +196,24 @@ StandsAfter new step.Sleeps = IsAsleep new
 StandsAfter new (step.Wakes number) = IsInCall new
 StandsAfter new (step.Ends o) = IsBetweenCalls new
 
--- any number of steps, each of which goes on
-pub data HasGoneOn {T : Type 0} (c : Channel T) (old : ChannelSeat T) : ChannelSeat T → Type 0 where
-  none : HasGoneOn c old old
-  more : (mid now : ChannelSeat T) → HasGoneOn c old mid → Moves c mid now step.GoesOn → HasGoneOn c old now
+-- the most steps that `steps` takes
+abbrev pub steps_at_once : ℕ
+steps_at_once = 16
 
--- any number of steps, each of which goes on, and a last one
+-- this many steps, each of which goes on
+pub data HasGoneOn {T : Type 0} (c : Channel T) (old : ChannelSeat T) : ℕ → ChannelSeat T → Type 0 where
+  none : HasGoneOn c old 0 old
+  more : (taken : ℕ) (mid now : ChannelSeat T) → HasGoneOn c old taken mid → Moves c mid now step.GoesOn → HasGoneOn c old (taken + 1) now
+
+-- some steps, each of which goes on, and a last one
 pub record StepsLast {T : Type 0} (c : Channel T) (old new : ChannelSeat T) (s : ChannelStep T) : Type 0 where
+  pub taken : ℕ
+  pub few : taken < steps_at_once
   pub before : ChannelSeat T
-  pub steps : HasGoneOn c old before
+  pub steps : HasGoneOn c old taken before
   pub last : Moves c before new s
 
+-- the steps of `steps`: as many as it may take, or up to the first that does not go on
 abbrev pub Runs : {T : Type 0} → Channel T → ChannelSeat T → ChannelSeat T → ChannelStep T → Type 0
-Runs c old new step.GoesOn = HasGoneOn c old new
+Runs c old new step.GoesOn = HasGoneOn c old steps_at_once new
 Runs c old new s = StepsLast c old new s

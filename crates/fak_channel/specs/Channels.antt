@@ -17,7 +17,7 @@ use Rattle.fak_channel.specs.declared.fault.SendFault.{SendFault}
 use Rattle.fak_channel.specs.declared.fault.SendFault.TheVariants as sending
 use Rattle.fak_channel.specs.declared.fault.ReceiveFault.{ReceiveFault}
 use Rattle.fak_channel.specs.declared.fault.ReceiveFault.TheVariants as receiving
-use Rattle.fak_channel.specs.Marks.{HasMade, Looked, HasFoundFull, EmptySoFar, HasFoundEmpty}
+use Rattle.fak_channel.specs.Marks.{HasMade, Looked, HasFoundFull, EmptySoFar, HasFoundEmpty, WasNotDrained}
 
 -- ---- seats
 
@@ -118,9 +118,9 @@ abbrev pub RefusesReceiveUntil : {T : Type 0} → ℕ → ChannelSeat T → Chan
 RefusesReceiveUntil size old new receiving.TimedOut = GivesUpReceiving size old new
 RefusesReceiveUntil size old new fault = RefusesReceive size old new fault
 
--- a try is refused as empty only if its claim on the queue was
+-- a try is refused as empty only if its claim on the queue was, and then the channel was not drained
 abbrev pub RefusesTryReceive : {T : Type 0} → ℕ → ChannelSeat T → ChannelSeat T → ReceiveFault → Type 0
-RefusesTryReceive size old new receiving.Empty = HasFoundEmpty size old.queue.seat new.queue.seat
+RefusesTryReceive size old new receiving.Empty = HasFoundEmpty size old.queue.seat new.queue.seat × WasNotDrained size old.queue.seat new.queue.seat
 RefusesTryReceive size old new fault = RefusesReceive size old new fault
 
 -- ---- closing

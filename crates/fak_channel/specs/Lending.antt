@@ -1,7 +1,9 @@
 -- What calls by a borrowed end do. It is not known which end it is and what it has seen: some end performed the call.
-use Rattle.std.specs.Prelude.{◌≡◌, ◌≢◌, Bool, Option, Some, None}
+use Rattle.std.specs.Prelude.{◌≡◌, ◌≢◌, Bool, Box, Option, Some, None}
+use Rattle.std.specs.declared.alloc.Global.{Global}
 use Rattle.fak_channel.specs.declared.channel.Channel.{Channel}
 use Rattle.fak_channel.specs.declared.seat.ChannelSeat.{ChannelSeat}
+use Rattle.fak_channel.specs.declared.shelves.Shelf.{Shelf, out-Shelf}
 use Rattle.fak_channel.specs.declared.fault.SendFault.{SendFault}
 use Rattle.fak_channel.specs.declared.fault.ReceiveFault.{ReceiveFault}
 use Rattle.fak_channel.specs.declared.lender_fault.LenderSendFault.{LenderSendFault}
@@ -46,6 +48,21 @@ BusyOrRefusesReceive T (receiving.Refused fault) = SomeEndRefusesTryReceive T fa
 
 abbrev pub SomeEndCloses : (T : Type 0) → Bool → Type 0
 SomeEndCloses T was_open = (c : Call T) × ClosesAs c.channel.queue.size was_open c.old c.new
+
+-- a shelf in its box
+abbrev pub BoxedShelf : Type 0 → Type 0
+BoxedShelf T = Box (Shelf T) Global
+
+-- the top shelf was taken off, if there was one, with its end; those below it stay
+abbrev pub TakesTop : {T : Type 0} → Option (BoxedShelf T) → Option (BoxedShelf T) → Option (BoxedShelf T) → Type 0
+TakesTop None new taken = (new ≡ None) × (taken ≡ None)
+TakesTop (Some top) new None = ⊥
+TakesTop {T} (Some top) new (Some taken) = ((out-Shelf T taken.value).end ≡ (out-Shelf T top.value).end) × (new ≡ (out-Shelf T top.value).below)
+
+-- a shelf was put on top with its end, and those below it stay
+abbrev pub PutsOnTop : {T : Type 0} → BoxedShelf T → Option (BoxedShelf T) → Option (BoxedShelf T) → Type 0
+PutsOnTop put old None = ⊥
+PutsOnTop {T} put old (Some top) = ((out-Shelf T top.value).end ≡ (out-Shelf T put.value).end) × ((out-Shelf T top.value).below ≡ old)
 
 -- an end was taken off these shelves, if there was one
 abbrev pub IsTaken : {A : Type 0} → Option A → Option A → Type 0

@@ -8,6 +8,7 @@ use Rattle.fak_model.specs.Calls.{SeatInfo, mine_of}
 use Rattle.fak_model.specs.Histories.{AreNamed}
 use Rattle.fak_model.specs.Queue.{IsQueueHistory, queue_rules, count, puts, gots, items_put, item_at}
 use Rattle.fak_model.specs.Seats.{Begins}
+use Rattle.fak_queue.specs.Drained.{IsDrained}
 use Rattle.fak_queue.specs.Queues.{made_by, seat_of, before_own, drawn_by}
 use Rattle.fak_queue.specs.Retries.{RefusedInsertion, kinds_not_in, IsFull, RefusedDeletion, kinds_not_out}
 
@@ -43,6 +44,13 @@ pub record HasFoundEmpty {T : Type 0} (size : ℕ) (old now : SeatInfo (Mark T))
   pub first : RefusedDeletion
   pub later : List RefusedDeletion
   pub made : HasMade size (flat_map kinds_not_out (first ∷ later)) old now
+
+-- after such a claim the queue was not drained
+pub record WasNotDrained {T : Type 0} (size : ℕ) (old now : SeatInfo (Mark T)) : Type 0 where
+  pub found : SeatInfo (Mark T)
+  pub empty : HasFoundEmpty size old found
+  pub not_drained : IsDrained found.seen → ⊥
+  pub looks : Looked size found now
 
 abbrev pub EmptySoFar : {T : Type 0} → ℕ → SeatInfo (Mark T) → SeatInfo (Mark T) → Type 0
 EmptySoFar size old now = (now ≡ old) ⊎ HasFoundEmpty size old now

@@ -215,15 +215,21 @@ module _ {T : Type 0} (c : Channel T) (old new : ChannelSeat T) where
   GivesUpSleep w None = FindsWake w
   GivesUpSleep w (Some v) = (v ≡ w) × TakesOwn w
 
-  -- a load finds the own bit still set: nobody has woken this end
-  pub record FindsBitSet (w : Wish T) : Type 0 where
-    pub signs : AddsNote size (as_role (role_of w) (FindsBit old.queue.seat.name true)) old.queue new.queue
-    pub stands : Stands old.standing
-
   -- nothing but the standing changes
   pub record OnlyStands (s : CallStanding T) : Type 0 where
     pub same : new.queue ≡ old.queue
     pub stands : Stands s
+
+  -- what it is to give up a call that sleeps, or a try that would have to
+  abbrev pub GivesUpAt : Next T → Option (Wish T) → Type 0
+  GivesUpAt (Sleeping w) r = GivesUpSleep w r
+  GivesUpAt (Refused w) (Some v) = (v ≡ w) × OnlyStands (with_next Idle old.standing)
+  GivesUpAt _ _ = ⊥
+
+  -- a load finds the own bit still set: nobody has woken this end
+  pub record FindsBitSet (w : Wish T) : Type 0 where
+    pub signs : AddsNote size (as_role (role_of w) (FindsBit old.queue.seat.name true)) old.queue new.queue
+    pub stands : Stands old.standing
 
   pub record ShutsQueue : Type 0 where
     pub was_open : Bool

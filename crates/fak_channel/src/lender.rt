@@ -19,6 +19,9 @@ use std::time::{Clock, Instant};
 ///
 /// A call that sleeps keeps its end. So use one lender for the ends of senders and another for those of receivers.
 /// Otherwise sleeping receivers may have all ends, and no sender gets one.
+///
+/// `send` and its like borrow an end, perform the call of that end, and give it back. Their clauses cannot name the end, so they
+/// say little. To prove what a call did, borrow the end (`lend`) and cite the call of the end.
 #[derive(Drop)]
 pub struct Lender<'c, T> {
     shelves: Mutex<Shelves<'c, T>>,

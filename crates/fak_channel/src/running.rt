@@ -1,7 +1,7 @@
 //! How a thread takes the steps of a call: it waits for steps of other ends, wakes the threads whose bits it has cleared, and
 //! parks while its own bit is set.
 
-ghost use Rattle.std.specs.Prelude.{◌≡◌, MatchOption, MatchResult, false};
+ghost use Rattle.std.specs.Prelude.{◌≡◌, MatchOption, MatchResult, false, true};
 ghost use Rattle.fak_channel.specs.ChannelSteps.{EndsAll, GivesUp, RefusesAll, StopsAt, WakesNone};
 ghost use Rattle.fak_channel.specs.Standings.{IsAsleep, IsBetweenCalls, IsInCall, IsSeatOf, IsStepSeatOf};
 
@@ -150,6 +150,7 @@ impl<T: Drop> Channel<T> {
     ) -> Result<Outcome<T>, Wish<T>>
         requires stands { IsStepSeatOf self.now seat.old }
         requires in_call { IsInCall seat.old }
+        requires is_try { seat.old.standing.tries ≡ true }
         ensures seat { IsSeatOf self.now seat.new }
         ensures call { MatchResult result (EndsAll self.now.queue.size seat.old seat.new)
             (RefusesAll self.now.queue.size seat.old seat.new) }

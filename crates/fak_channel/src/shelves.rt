@@ -2,7 +2,7 @@
 
 ghost use Rattle.std.specs.Prelude.{◌≡◌, ◌≢◌, ◌↔◌, ◌+◌, ◌-◌, ◌^◌, IsTrue, MatchOption, None, min};
 ghost use Rattle.std.specs.Option.{ForSome};
-ghost use Rattle.fak_channel.specs.Lending.{IsTaken};
+ghost use Rattle.fak_channel.specs.Lending.{IsTaken, PutsOnTop, TakesTop};
 
 use crate::end::End;
 
@@ -31,6 +31,7 @@ pub(crate) struct Shelves<'c, T> {
 /// Takes the top shelf off, if there is one.
 fn take_off<'c, T: Drop>(shelves: &mut Option<Box<Shelf<'c, T>>>) -> Option<Box<Shelf<'c, T>>>
     ensures taken { IsTaken shelves.old result }
+    ensures top { TakesTop shelves.old shelves.new result }
     ensures none { result ≡ None → shelves.new ≡ None }
     ensures still_none { shelves.old ≡ None → shelves.new ≡ None }
 {
@@ -54,6 +55,7 @@ impl<'c, T: Drop> Shelves<'c, T> {
     pub(crate) fn take_idle(&mut self) -> Option<Box<Shelf<'c, T>>>
         ensures waiting { self.new.waiting ≡ self.old.waiting }
         ensures aside { self.new.aside ≡ self.old.aside }
+        ensures top { TakesTop self.old.idle self.new.idle result }
         ensures end { IsTaken self.old.idle result }
         ensures none { result ≡ None → self.new.idle ≡ None }
     {
@@ -64,6 +66,7 @@ impl<'c, T: Drop> Shelves<'c, T> {
     pub(crate) fn begin_to_wait(&mut self)
         requires { self.old.idle ≡ None }
         ensures waiting { self.new.waiting ≡ min (self.old.waiting + 1) (2 ^ 64 - 1) }
+        ensures idle { self.new.idle ≡ self.old.idle }
         ensures aside { self.new.aside ≡ self.old.aside }
     {
         self.waiting = self.waiting.saturating_add(1);
@@ -79,6 +82,8 @@ impl<'c, T: Drop> Shelves<'c, T> {
     /// An end that was put aside, if there is one. A caller that waits takes it, and waits no longer.
     pub(crate) fn take_aside(&mut self) -> Option<Box<Shelf<'c, T>>>
         ensures waiting { self.new.waiting ≡ self.old.waiting }
+        ensures idle { self.new.idle ≡ self.old.idle }
+        ensures top { TakesTop self.old.aside self.new.aside result }
         ensures end { IsTaken self.old.aside result }
     {
         take_off(&mut self.aside)
@@ -87,6 +92,8 @@ impl<'c, T: Drop> Shelves<'c, T> {
     /// The end of a wait at its deadline: an end that was put aside, or none, and the caller waits no longer.
     pub(crate) fn stop_waiting(&mut self) -> Option<Box<Shelf<'c, T>>>
         ensures end { IsTaken self.old.aside result }
+        ensures idle { self.new.idle ≡ self.old.idle }
+        ensures top { TakesTop self.old.aside self.new.aside result }
         ensures waiting { MatchOption result (self.new.waiting ≡ self.old.waiting - 1) (λ _. self.new.waiting ≡ self.old.waiting) }
     {
         let taken = take_off(&mut self.aside);
@@ -100,6 +107,10 @@ impl<'c, T: Drop> Shelves<'c, T> {
     pub(crate) fn give(&mut self, mut shelf: Box<Shelf<'c, T>>) -> Option<Notice>
         ensures none { MatchOption result (self.old.waiting ≡ 0) (λ _. self.new.waiting + 1 ≡ self.old.waiting) }
         ensures kept { MatchOption result (self.new.idle ≢ None) (λ _. self.new.aside ≢ None) }
+        ensures idle { MatchOption result (PutsOnTop shelf.entry self.old.idle self.new.idle)
+            (λ _. self.new.idle ≡ self.old.idle) }
+        ensures aside { MatchOption result (self.new.aside ≡ self.old.aside)
+            (λ _. PutsOnTop shelf.entry self.old.aside self.new.aside) }
     {
         if self.waiting == 0 {
             shelf.below = self.idle.take();

@@ -5,7 +5,7 @@ ghost use Rattle.fak_channel.specs.ChannelSteps.{GivesUp, Runs, StandsAfter, Ste
 ghost use Rattle.fak_channel.specs.declared.standing.ChannelStep.TheVariants.{Ends};
 ghost use Rattle.fak_channel.specs.declared.standing.Next.TheVariants.{Ending};
 ghost use Rattle.fak_channel.specs.declared.standing.Outcome.{Outcome};
-ghost use Rattle.fak_channel.specs.Moves.{IsDone, Moves, MovesNext, step_of};
+ghost use Rattle.fak_channel.specs.Moves.{GivesUpAt, IsDone, Moves, MovesNext, step_of};
 ghost use Rattle.fak_channel.specs.Standings.{IsAsleep, IsBetweenCalls, IsInCall, IsStepSeatOf, OwesNone};
 
 use crate::channel::Channel;
@@ -111,7 +111,7 @@ impl<T: Drop> Channel<T> {
         ensures call { Steps self.now.queue.size seat.old seat.new result }
         ensures runs { Runs self.now seat.old seat.new result }
     {
-        for _ in 0..STEPS_AT_ONCE {
+        for _taken in 0..STEPS_AT_ONCE {
             match self.step(seat) {
                 ChannelStep::GoesOn => {}
                 ChannelStep::NotYet => return ChannelStep::NotYet,
@@ -131,6 +131,7 @@ impl<T: Drop> Channel<T> {
         ensures stands { IsStepSeatOf self.now seat.new }
         ensures after { MatchOption result (IsInCall seat.new) (λ _. IsBetweenCalls seat.new) }
         ensures tries { seat.new.standing.tries ≡ seat.old.standing.tries }
+        ensures moves { GivesUpAt self.now seat.old seat.new seat.old.standing.next result }
         ensures call { GivesUp self.now.queue.size seat.old seat.new result }
     {
         match mem::replace(&mut seat.standing.next, Next::Idle) {

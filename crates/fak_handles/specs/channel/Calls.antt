@@ -5,6 +5,7 @@ use Rattle.fak_model.specs.declared.queue.Kind.TheVariants.{Close}
 use Rattle.fak_model.specs.Queue.{Has}
 use Rattle.fak_queue.specs.Queues.{drawn_by}
 use Rattle.fak_channel.specs.Channels.{IsLength, OnlyLooks, RefusesReceive, RefusesSend}
+use Rattle.fak_channel.specs.Moves.{GivesUpAt}
 use Rattle.fak_channel.specs.ChannelSteps.{Sending, Receiving, Closing, BeginsAs, BeginsAfterLook, GivesUp, RefusesBeginTryReceive, RefusesBeginTrySend, Runs, StandsAfter, Steps}
 use Rattle.fak_channel.specs.Standings.{IsAsleep, IsBetweenCalls, IsInCall, call_state}
 use Rattle.fak_channel.specs.declared.fault.ChannelWorn.{ChannelWorn}
@@ -73,6 +74,7 @@ pub record AsksToStep (answer : ChannelStep Item) (d e : ChannelDesk) : Type 0 w
 pub record AsksToGiveUp (answer : Option (Wish Item)) (d e : ChannelDesk) : Type 0 where
   pub asleep : IsAsleep d.seat
   pub after : MatchOption answer (IsInCall e.seat) (λ _. IsBetweenCalls e.seat)
+  pub moves : GivesUpAt (arc_value d.channel) d.seat e.seat d.seat.standing.next answer
   pub call : GivesUp (size_at d) d.seat e.seat answer
 
 -- ---- the results as codes: 11 wakes, 13 sleeps, 14 gave up

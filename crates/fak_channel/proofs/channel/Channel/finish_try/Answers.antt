@@ -16,7 +16,7 @@ returns-in-Ends-clause-call g c = stopped_ended c.args.self.now c.args.seat.now 
 pub returns-in-Some-give_up-clause-call : goal.returns-in-Some-give_up-clause-call
 returns-in-Some-give_up-clause-call g c =
     let k = stopped_asleep c.args.self.now c.args.seat.now c.loop.seat c.run.new.seat c.loop.invariant c.run.ensures.stands c.run.ensures.tries c.in-Sleeps.ensures.call in
-    refused_all c.args.self.now c.args.seat.now c.run.new.seat c.give_up.new.seat c.in-Some-give_up.wish k.continues c.in-Some-give_up.ensures.call
+    refused_all c.args.self.now c.args.seat.now c.run.new.seat c.give_up.new.seat c.in-Some-give_up.wish k.continues c.requires.is_try c.in-Some-give_up.ensures.call
 
 pub loop-preserved : goal.loop-preserved
 loop-preserved g c =
