@@ -1,10 +1,11 @@
 //! What an end owes to others: looks for sleepers, and checks whether the channel is drained. An end that makes room or an
 //! item looks for a sleeper. An end that may have drained the channel checks it.
 
-ghost use Rattle.std.specs.Prelude.{◌≡◌, ◌<◌, ◌≤◌};
+ghost use Rattle.std.specs.Prelude.{◌≡◌, ◌*◌, ◌<◌, ◌≤◌};
 ghost use Rattle.fak_model.specs.Limits.{large_seats};
 ghost use Rattle.fak_queue.specs.declared.state.SeatState.TheVariants.{Idle};
 ghost use Rattle.fak_queue.specs.Queues.{state_of};
+ghost use Rattle.fak_channel.specs.Looks.{past_word, words_of};
 ghost use Rattle.fak_channel.specs.Moves.{ClearsBit, LoadsWord, LooksOnce, PaysCheck, looks_for, step_of, with_looks};
 ghost use Rattle.fak_channel.specs.Standings.{CanLook};
 
@@ -25,8 +26,40 @@ impl<T> CallStanding<T> {
         }
     }
 
-    /// It stays a function of its own: else a look would call nothing, and LLVM would have it write below the stack.
+    /// The end from which on that look goes.
+    fn look_from(&self, role: Role) -> u64
+        ensures { result ≡ (looks_for role self.now).from }
+    {
+        match role {
+            Role::Sender => self.senders.from,
+            Role::Receiver => self.receivers.from,
+        }
+    }
+
+    /// The end whose bit it has found set.
+    fn look_found(&self, role: Role) -> Option<u64>
+        ensures { result ≡ (looks_for role self.now).found }
+    {
+        match role {
+            Role::Sender => self.senders.found,
+            Role::Receiver => self.receivers.found,
+        }
+    }
+
+    /// A load has found no bit set in its word. It stays a function of its own: else a look would call nothing, and LLVM would
+    /// have it write below the stack.
     #[inline(never)]
+    fn pass_word(&mut self, role: Role, ends: u64)
+        requires few { ends ≤ large_seats }
+        requires from { (looks_for role self.old).from < 64 * words_of ends }
+        ensures { self.new ≡ with_looks role (past_word ends (looks_for role self.old)) self.old }
+    {
+        match role {
+            Role::Sender => self.senders.pass_word(ends),
+            Role::Receiver => self.receivers.pass_word(ends),
+        }
+    }
+
     fn set_looks(&mut self, role: Role, looks: Looks)
         ensures { self.new ≡ with_looks role looks self.old }
     {
@@ -44,7 +77,7 @@ impl<T: Drop> Channel<T> {
         ensures { LooksOnce self.now.ends self.now.queue.size role (looks_for role seat.old.standing) seat.old seat.new
             (looks_for role seat.old.standing).found (step_of result) }
     {
-        match seat.standing.looks_for(role).found {
+        match seat.standing.look_found(role) {
             Some(other) => self.clear_bit(seat, role, other),
             None => {
                 self.load_word(seat, role);
@@ -59,12 +92,13 @@ impl<T: Drop> Channel<T> {
         requires { CanLook self.now (looks_for role seat.old.standing) seat.old }
         ensures { LoadsWord self.now.ends self.now.queue.size role (looks_for role seat.old.standing) seat.old seat.new }
     {
-        let looks = seat.standing.looks_for(role);
-        let found = seat.queue.look(&self.queue, role, looks.from / 64);
+        let word = seat.standing.look_from(role) / 64;
+        let found = seat.queue.look(&self.queue, role, word);
         if found == 0 {
-            seat.standing.set_looks(role, looks.past_word(self.ends));
+            seat.standing.pass_word(role, self.ends);
             return;
         }
+        let looks = seat.standing.looks_for(role);
         match looks.first_in(found) {
             Some(other) => seat.standing.set_looks(
                 role,

@@ -49,17 +49,14 @@ impl Looks {
     }
 
     /// A load has found no bit set in its word.
-    pub(crate) fn past_word(self, ends: u64) -> Looks
+    pub(crate) fn pass_word(&mut self, ends: u64)
         requires few { ends ≤ large_seats }
-        requires from { self.from < 64 * words_of ends }
-        ensures { result ≡ past_word ends self }
+        requires from { self.old.from < 64 * words_of ends }
+        ensures { self.new ≡ past_word ends self.old }
     {
-        Looks {
-            is_owed: self.left > 1,
-            from: 64 * next_in(words_of(ends), self.from / 64),
-            left: self.left.saturating_sub(1),
-            found: self.found,
-        }
+        self.is_owed = self.left > 1;
+        self.from = 64 * next_in(words_of(ends), self.from / 64);
+        self.left = self.left.saturating_sub(1);
     }
 
     /// A load has found bits set, all of them of ends before the one from which on the look goes.
