@@ -78,7 +78,7 @@ pub extern "C" fn fak_channel_begin_try_receive(end: &mut PaddedHandle) -> i32
 
 /// Begins to close the channel.
 ///
-/// `OK` if `fak_channel_step` is next; `WORN`, `NO_SEAT` or `WRONG_STATE`.
+/// `OK` if `fak_channel_step` is next; `NO_SEAT` or `WRONG_STATE`.
 #[unsafe(no_mangle)]
 pub extern "C" fn fak_channel_begin_close(end: &mut PaddedHandle) -> i32
     ensures call { Called result Unit SameChannel (BeginsClose result)
@@ -94,7 +94,7 @@ pub extern "C" fn fak_channel_begin_close(end: &mut PaddedHandle) -> i32
 
 /// Goes on with the open call, by some steps. Writes the item that came out or back, and the number of the end that is to be woken.
 ///
-/// `OK`, `CLOSED` or `WORN` if the call is done; `NOT_YET`, `WAKES` or `SLEEPS` if it stays open; `NO_SEAT` or `WRONG_STATE`.
+/// `OK` or `CLOSED` if the call is done; `NOT_YET`, `WAKES` or `SLEEPS` if it stays open; `NO_SEAT` or `WRONG_STATE`.
 #[unsafe(no_mangle)]
 pub extern "C" fn fak_channel_step(end: &mut PaddedHandle, item: &mut Item, number: &mut u64) -> i32
     ensures call { Called result ((item.new ≡ item.old) × (number.new ≡ number.old)) SameChannel
