@@ -26,11 +26,11 @@ static void deadlines_pass(void) {
     fak_channel_item item = {{1}};
     uint64_t before = fak_channel_deadline(0);
     CHECK(fak_channel_open_ends(ends, 1, 1, STINT) == FAK_C_OK && fak_channel_deadline(UINT64_MAX) == FAK_CHANNEL_NEVER);
-    CHECK(fak_channel_receive_until(ends, &item, fak_channel_deadline(A_WHILE)) == FAK_C_GAVE_UP && item.word[0] == 1);
-    CHECK(fak_channel_deadline(0) - before >= A_WHILE && fak_channel_send(ends, &seven) == FAK_C_OK);
+    CHECK(fak_channel_receive_until(ends, &item, fak_channel_deadline(A_LONG_WHILE)) == FAK_C_GAVE_UP && item.word[0] == 1);
+    CHECK(fak_channel_deadline(0) - before >= A_LONG_WHILE && fak_channel_send(ends, &seven) == FAK_C_OK);
     before = fak_channel_deadline(0);
-    CHECK(fak_channel_send_until(ends, &seven, fak_channel_deadline(A_WHILE)) == FAK_C_GAVE_UP);
-    CHECK(fak_channel_deadline(0) - before >= A_WHILE);
+    CHECK(fak_channel_send_until(ends, &seven, fak_channel_deadline(A_LONG_WHILE)) == FAK_C_GAVE_UP);
+    CHECK(fak_channel_deadline(0) - before >= A_LONG_WHILE);
     leave_ends(ends, 1);
 }
 

@@ -9,6 +9,8 @@
 
 /* How long a test waits for what may not happen, in nanoseconds. */
 #define A_WHILE UINT64_C(20000000)
+/* Longer than a thread looks at its token before it sleeps, on a busy machine too: it yields meanwhile. */
+#define A_LONG_WHILE UINT64_C(500000000)
 
 static inline void rest_a_while(void) {
     CHECK(nanosleep(&(struct timespec){0, A_WHILE}, NULL) == 0);
