@@ -4,7 +4,6 @@ use Rattle.fak_channel.specs.declared.fault.ReceiveFault.TheVariants as receivin
 use Rattle.fak_channel.specs.declared.fault.SendFault.TheVariants as sending
 use Rattle.fak_channel.specs.declared.seat.ChannelSeat.{ChannelSeat}
 use Rattle.fak_channel.specs.declared.standing.Outcome.{Outcome}
-use Rattle.fak_channel.specs.declared.standing.Wish.{Wish}
 use Rattle.fak_channel.specs.declared.standing.Wish.TheVariants.{Send, Receive}
 use Rattle.fak_channel.specs.Channels.{RefusesSendUntil, RefusesReceiveUntil, RefusesTrySend, RefusesTryReceive}
 use Rattle.fak_channel.specs.ChannelSteps.{Asked, Sending, Receiving, BeginsAs, EndsAs, EndsAll, RefusesAll, WakesNone}
