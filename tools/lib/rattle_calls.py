@@ -6,10 +6,14 @@ import re
 # A type or the crate itself (whose name is empty), and its calls.
 Type = collections.namedtuple("Type", "name paragraphs calls")
 Call = collections.namedtuple("Call", "name paragraphs errors signature contract")
+# A clause of a contract. It may have no label.
+Clause = collections.namedtuple("Clause", "kind label text")
 
 CLAUSE = re.compile(r"\s*(requires|ensures|measures)\b")
-# The end of the line at which a function's body begins.
-BODY = re.compile(r"\{( .*)?\}?$")
+# The end of the line at which a function's body begins, and of the last line of a trait's function.
+BODY = re.compile(r"(\{( .*)?\}?|;)$")
+# A clause up to its opening brace.
+HEAD = re.compile(r"\s*((?:requires|ensures|measures)\*?) *(\w*) *\{")
 
 
 def paragraphs_of(lines):
@@ -28,18 +32,35 @@ def before(lines, at):
 
 
 def call_at(lines, at, name):
-    """The call whose `pub fn` is at this line."""
-    end = at
-    while not BODY.search(lines[end]) or CLAUSE.match(lines[end]):
+    """The call whose `fn` is at this line. Its contract ends before the body, or with the semicolon of a trait's function."""
+    first = at
+    while not CLAUSE.match(lines[first]) and not BODY.search(lines[first]):
+        first += 1
+    end, depth, has_clauses = first, 0, CLAUSE.match(lines[first])
+    while has_clauses and (depth or not lines[end].lstrip().startswith("{")):
+        depth += lines[end].count("{") - lines[end].count("}")
         end += 1
-    clause = next((line for line in range(at, end) if CLAUSE.match(lines[line])), end)
-    head = " ".join(line.strip() for line in lines[at:max(clause, at + 1)])
-    signature = re.sub(r"\s*\{$", "", re.sub(r",? \)", ")", head.replace("( ", "(")))
+        if not depth and lines[end - 1].endswith(";"):
+            break
+    head = " ".join(line.strip() for line in lines[at:first if has_clauses else first + 1])
+    signature = re.sub(r"( \{.*|;)$", "", re.sub(r",? \)", ")", head.replace("( ", "(")))
     texts = before(lines, at)
     heads = [number for number, text in enumerate(texts) if text.startswith("# ")]
     errors = texts.index("# Errors") if "# Errors" in texts else None
     return Call(name, texts[:heads[0]] if heads else texts, texts[errors + 1:errors + 2] if errors is not None else [], signature,
-                "\n".join(line[4:] for line in lines[clause:end]))
+                "\n".join(line[4:] for line in lines[first:end]).rstrip(";"))
+
+
+def clauses_of(contract):
+    """The clauses of a contract, without comments, and with one space for white space."""
+    text, at = re.sub(r"//.*", "", contract), 0
+    while text[at:].strip():
+        head = HEAD.match(text, at)
+        at, depth = head.end(), 1
+        while depth:
+            depth += {"{": 1, "}": -1}.get(text[at], 0)
+            at += 1
+        yield Clause(head.group(1), head.group(2), " ".join(text[head.end():at - 1].split()))
 
 
 def calls_in(lines):
@@ -52,6 +73,17 @@ def calls_in(lines):
         name = re.match(r"(    )?pub fn (\w+)", line)
         if name and (owner or not name.group(1)):
             yield owner if name.group(1) else "", call_at(lines, at, name.group(2))
+
+
+def trait_calls_in(lines):
+    """Pairs of the name of a public trait and a function that it declares."""
+    owner = None
+    for at, line in enumerate(lines):
+        found, name = re.match(r"pub trait (\w+)", line), re.match(r"    fn (\w+)", line)
+        if found or line == "}":
+            owner = found and found.group(1)
+        if owner and name:
+            yield owner, call_at(lines, at, name.group(1))
 
 
 def exported_names(root):

@@ -13,15 +13,16 @@ ghost use Rattle.fak_channel.specs.declared.standing.ChannelStep.TheVariants.{Sl
 ghost use Rattle.fak_channel.specs.declared.standing.Next.TheVariants.{Sleeping};
 ghost use Rattle.fak_channel.specs.declared.standing.Wish.{Wish};
 ghost use Rattle.fak_channel.specs.declared.standing.Wish.TheVariants.{Receive, Send};
+ghost use Rattle.fak_channel.specs.Channels.{StaysAwake};
 ghost use Rattle.fak_channel.specs.EndsAtRest.{AllEndsRest, EndSleeps};
 ghost use Rattle.fak_channel.specs.Moves.{Moves};
-ghost use Rattle.fak_channel.specs.Standings.{IsSeatOf};
+ghost use Rattle.fak_channel.specs.Standings.{IsInCall, IsSeatOf, IsStepSeatOf};
 
 use fak_channel::laws::{
-    an_end_that_sleeps_on_finds_its_bit_set, an_end_that_waits_owes_nothing,
+    a_try_sets_no_bit, an_end_that_sleeps_on_finds_its_bit_set, an_end_that_waits_owes_nothing,
     no_end_sleeps_beside_work,
 };
-use fak_channel::{Channel, ChannelSeat};
+use fak_channel::{Channel, ChannelSeat, ChannelStep};
 
 /// If only sleepers have open calls, no receiver sleeps while there is an item, no sender while there is a free cell, and
 /// nobody in a channel that is closed.
@@ -56,4 +57,19 @@ pub fn who_has_not_looked_does_not_sleep_on<T>()
         → new.queue.notes ≡ old.queue.notes → Moves c old new Sleeps → ⊥ }
 {
     an_end_that_sleeps_on_finds_its_bit_set::<T>();
+}
+
+/// Takes one step of an open try. The seat sets no bit by it, so it does not sleep.
+pub fn take_a_step_of_a_try<T: Drop>(
+    channel: &Channel<T>,
+    seat: &mut ChannelSeat<T>,
+) -> ChannelStep<T>
+    requires stands { IsStepSeatOf channel.now seat.old }
+    requires in_call { IsInCall seat.old }
+    requires is_try { seat.old.standing.tries ≡ true }
+    ensures stands { IsStepSeatOf channel.now seat.new }
+    ensures awake { StaysAwake seat.old.queue seat.new.queue }
+{
+    a_try_sets_no_bit::<T>();
+    channel.step(seat)
 }

@@ -6,8 +6,8 @@ use Rattle.fak_channel.specs.declared.fault.ReceiveFault.{ReceiveFault}
 use Rattle.fak_channel.specs.declared.fault.SendFault.{SendFault}
 use Rattle.fak_channel.specs.declared.fault.ChannelWorn.{ChannelWorn}
 use Rattle.fak_channel.specs.declared.seat.ChannelSeat.{ChannelSeat}
-use Rattle.fak_channel.specs.Channels.{ClosesAs, Receives, RefusesReceive, RefusesSend, RefusesTryReceive, RefusesTrySend, Sends}
-use Rattle.fak_channel.specs.Lending.{Call, SomeEndCloses, SomeEndReceives, SomeEndRefusesReceive, SomeEndRefusesSend, SomeEndRefusesTryReceive, SomeEndRefusesTrySend, SomeEndSends}
+use Rattle.fak_channel.specs.Channels.{ClosesAs, Receives, RefusesReceive, RefusesSend, RefusesTryReceive, RefusesTrySend, Sends, StaysAwake}
+use Rattle.fak_channel.specs.Lending.{Call, SomeEndCloses, SomeEndReceives, SomeEndReceivesAtOnce, SomeEndRefusesReceive, SomeEndRefusesSend, SomeEndRefusesTryReceive, SomeEndRefusesTrySend, SomeEndSends, SomeEndSendsAtOnce}
 
 -- weaker facts about both outcomes
 outcomes : {A E : Type 0} (r : Result A E) {P P' : A → Type 0} {Q Q' : E → Type 0} → ((a : A) → P a → P' a) → ((e : E) → Q e → Q' e) → MatchResult r P Q → MatchResult r P' Q'
@@ -22,20 +22,20 @@ module _ {T : Type 0} (channel : Channel T) (old new : ChannelSeat T) where
   pub sent : (x : T) (r : Result (Unit {0}) (SendFault T)) → MatchResult r (λ _. Sends channel.queue.size x old new) (RefusesSend channel.queue.size x old new) → MatchResult r (λ _. SomeEndSends x) (SomeEndRefusesSend x)
   sent x r = outcomes r (λ _ does. (by_end, does)) (λ _ does. (by_end, does))
 
-  pub sent_one : (x : T) → Sends channel.queue.size x old new → SomeEndSends x
-  sent_one x does = (by_end, does)
+  pub sent_one : (x : T) → Sends channel.queue.size x old new → StaysAwake old.queue new.queue → SomeEndSendsAtOnce x
+  sent_one x does awake = (by_end, does, awake)
 
-  pub refused_try_send : (x : T) (fault : SendFault T) → RefusesTrySend channel.queue.size x old new fault → SomeEndRefusesTrySend x fault
-  refused_try_send x fault does = (by_end, does)
+  pub refused_try_send : (x : T) (fault : SendFault T) → RefusesTrySend channel.queue.size x old new fault → StaysAwake old.queue new.queue → SomeEndRefusesTrySend x fault
+  refused_try_send x fault does awake = (by_end, does, awake)
 
   pub received : (r : Result T ReceiveFault) → MatchResult r (λ x. Receives channel.queue.size x old new) (RefusesReceive channel.queue.size old new) → MatchResult r SomeEndReceives (SomeEndRefusesReceive T)
   received r = outcomes r (λ _ does. (by_end, does)) (λ _ does. (by_end, does))
 
-  pub received_one : (x : T) → Receives channel.queue.size x old new → SomeEndReceives x
-  received_one x does = (by_end, does)
+  pub received_one : (x : T) → Receives channel.queue.size x old new → StaysAwake old.queue new.queue → SomeEndReceivesAtOnce x
+  received_one x does awake = (by_end, does, awake)
 
-  pub refused_try_receive : (fault : ReceiveFault) → RefusesTryReceive channel.queue.size old new fault → SomeEndRefusesTryReceive T fault
-  refused_try_receive fault does = (by_end, does)
+  pub refused_try_receive : (fault : ReceiveFault) → RefusesTryReceive channel.queue.size old new fault → StaysAwake old.queue new.queue → SomeEndRefusesTryReceive T fault
+  refused_try_receive fault does awake = (by_end, does, awake)
 
   pub closed_by : (r : Result Bool ChannelWorn) → IfOk r (λ was_open. ClosesAs channel.queue.size was_open old new) → IfOk r (SomeEndCloses T)
   closed_by (Ok was_open) does = (by_end, does)

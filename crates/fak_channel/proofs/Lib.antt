@@ -14,3 +14,4 @@ pub mod Begun
 pub mod Deals
 pub mod Pieces
 pub mod Callers
+pub mod Trying

@@ -25,7 +25,7 @@ use Rattle.fak_channel.specs.declared.standing.Wish.{Wish}
 use Rattle.fak_channel.specs.declared.standing.Wish.TheVariants.{Send, Receive}
 use Rattle.fak_channel.specs.Standings.{IsBetweenCalls, IsInCall, IsAsleep, role_of}
 use Rattle.fak_channel.specs.Marks.{HasFoundFull, FullSoFar, HasFoundEmpty, EmptySoFar, HasClaimedIn, HasClaimedOut, HasMade, WasNotDrained}
-use Rattle.fak_channel.specs.Channels.{IsSpent, OnlyLooks, NotesMore, HasFallenAsleep, HasTakenBack, Sends, Receives, FindsClosed, IsOver, ClosesAs}
+use Rattle.fak_channel.specs.Channels.{IsSpent, OnlyLooks, NotesMore, StaysAwake, HasFallenAsleep, HasTakenBack, Sends, Receives, FindsClosed, IsOver, ClosesAs}
 use Rattle.fak_channel.specs.Moves.{Moves}
 
 -- what a call is asked to do
@@ -187,6 +187,10 @@ module _ {T : Type 0} (size : ℕ) where
   RefusesBeginTryReceive old new receiving.Closed = OnlyLooks size old new × IsDrained new.queue.seat.seen
   RefusesBeginTryReceive old new receiving.Empty = OnlyLooks size old new × (upper_count new.queue.seat.seen ≤ℤ pos 0) × (Has Close new.queue.seat.seen → ⊥)
   RefusesBeginTryReceive old new receiving.TimedOut = ⊥
+
+-- if the call is a try, it has set no bit since then
+abbrev pub KeepsAwake : {T : Type 0} → ChannelSeat T → ChannelSeat T → Type 0
+KeepsAwake old now = old.standing.tries ≡ true → StaysAwake old.queue now.queue
 
 -- the state of the seat after a step
 abbrev pub StandsAfter : {T : Type 0} → ChannelSeat T → ChannelStep T → Type 0

@@ -1,7 +1,11 @@
 -- What callers see of a channel and of its seats, and what whole calls do to them. Histories have the oldest mark first.
-use Rattle.std.specs.Prelude.{◌≡◌, ◌⊎◌, ℕ, Bool, true, List, [], ◌∷◌, ◌++◌, replicate, Some, pos, ◌≤ℤ◌}
+use Rattle.std.specs.Prelude.{◌≡◌, ◌⊎◌, ℕ, Bool, true, false, List, [], ◌∷◌, ◌++◌, replicate, Some, pos, ◌≤ℤ◌}
+use Rattle.std.specs.List.{All}
 use Rattle.fak_model.specs.declared.note.Note.{Note}
-use Rattle.fak_model.specs.declared.note.Sign.TheVariants.{FallsAsleep, TakesBack, FindsBit}
+use Rattle.fak_model.specs.declared.note.NoteKind.{NoteKind}
+use Rattle.fak_model.specs.declared.note.NoteKind.TheVariants.{AsSender, AsReceiver, Checks}
+use Rattle.fak_model.specs.declared.note.Sign.{Sign}
+use Rattle.fak_model.specs.declared.note.Sign.TheVariants.{Registers, FallsAsleep, TakesBack, FindsBit}
 use Rattle.fak_model.specs.declared.queue.Mark.{Mark}
 use Rattle.fak_model.specs.Queue.{IsQueueHistory, item_at, items_put, lower_count}
 use Rattle.fak_model.specs.Calls.{SeatInfo}
@@ -30,6 +34,22 @@ IsSpent s = drawn_by s.queue.seat ≡ s.queue.seat.stint
 -- the seat has noted no less
 abbrev pub NotesMore : {T : Type 0} → SleeperInfo T → SleeperInfo T → Type 0
 NotesMore old now = (more : List Note) × (now.notes ≡ more ++ old.notes)
+
+-- a step by which the end sets its bit: each sleep begins so
+abbrev pub registers : Sign → Bool
+registers Registers = true
+registers _ = false
+
+abbrev pub sets_bit : NoteKind → Bool
+sets_bit (AsSender v) = registers v
+sets_bit (AsReceiver v) = registers v
+sets_bit (Checks drained) = false
+
+-- since then the seat has set no bit, so it has not slept
+pub record StaysAwake {T : Type 0} (old now : SleeperInfo T) : Type 0 where
+  pub more : List Note
+  pub notes : now.notes ≡ more ++ old.notes
+  pub awake : All (λ n. sets_bit n.kind ≡ false) more
 
 -- it fell asleep in this role, and has found its bit still set at each of this many loads since
 abbrev pub slept : {T : Type 0} → Role → ℕ → SleeperInfo T → List Note → List Note

@@ -23,6 +23,7 @@ impl<T: Drop> Channel<T> {
         requires stands { IsStepSeatOf self.now seat.old }
         requires idle { IsBetweenCalls seat.old }
         ensures stands { IsStepSeatOf self.now seat.new }
+        ensures same { seat.new.queue ≡ seat.old.queue }
         ensures call { MatchResult result (λ _. BeginsAs self.now.queue.size is_try (Sending item) seat.old seat.new)
             (λ fault. RefusesSend self.now.queue.size item seat.old seat.new fault × IsBetweenCalls seat.new) }
     {
@@ -43,6 +44,7 @@ impl<T: Drop> Channel<T> {
         requires stands { IsStepSeatOf self.now seat.old }
         requires idle { IsBetweenCalls seat.old }
         ensures stands { IsStepSeatOf self.now seat.new }
+        ensures same { seat.new.queue ≡ seat.old.queue }
         ensures call { MatchResult result (λ _. BeginsAs self.now.queue.size is_try Receiving seat.old seat.new)
             (λ fault. RefusesReceive self.now.queue.size seat.old seat.new fault × IsBetweenCalls seat.new) }
     {
@@ -63,6 +65,7 @@ impl<T: Drop> Channel<T> {
         requires stands { IsStepSeatOf self.now seat.old }
         requires idle { IsBetweenCalls seat.old }
         ensures stands { IsStepSeatOf self.now seat.new }
+        ensures same { seat.new.queue ≡ seat.old.queue }
         ensures call { MatchResult result (λ _. BeginsAs self.now.queue.size false (Sending item) seat.old seat.new)
             (λ fault. RefusesSend self.now.queue.size item seat.old seat.new fault × IsBetweenCalls seat.new) }
     {
@@ -78,6 +81,7 @@ impl<T: Drop> Channel<T> {
         requires stands { IsStepSeatOf self.now seat.old }
         requires idle { IsBetweenCalls seat.old }
         ensures stands { IsStepSeatOf self.now seat.new }
+        ensures same { seat.new.queue ≡ seat.old.queue }
         ensures call { MatchResult result (λ _. BeginsAs self.now.queue.size false Receiving seat.old seat.new)
             (λ fault. RefusesReceive self.now.queue.size seat.old seat.new fault × IsBetweenCalls seat.new) }
     {
@@ -93,6 +97,7 @@ impl<T: Drop> Channel<T> {
         requires stands { IsStepSeatOf self.now seat.old }
         requires idle { IsBetweenCalls seat.old }
         ensures stands { IsStepSeatOf self.now seat.new }
+        ensures same { seat.new.queue ≡ seat.old.queue }
         ensures call { IfOk result (λ _. BeginsAs self.now.queue.size false Closing seat.old seat.new) }
         ensures never_fails { IsOk result }
     {

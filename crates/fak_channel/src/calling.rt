@@ -2,7 +2,7 @@
 
 ghost use Rattle.std.specs.Prelude.{◌≡◌, IfOk, IsOk, MatchResult};
 ghost use Rattle.fak_channel.specs.Channels.{ClosesAs, Receives, RefusesReceive, RefusesReceiveUntil, RefusesSend};
-ghost use Rattle.fak_channel.specs.Channels.{RefusesSendUntil, RefusesTryReceive, RefusesTrySend, Sends};
+ghost use Rattle.fak_channel.specs.Channels.{RefusesSendUntil, RefusesTryReceive, RefusesTrySend, Sends, StaysAwake};
 ghost use Rattle.fak_channel.specs.Standings.{IsSeatOf};
 
 use crate::channel::Channel;
@@ -70,6 +70,7 @@ impl<T: Drop> Channel<T> {
         ensures seat { IsSeatOf self.now seat.new }
         ensures call { MatchResult result (λ _. Sends self.now.queue.size item seat.old seat.new)
             (RefusesTrySend self.now.queue.size item seat.old seat.new) }
+        ensures awake { StaysAwake seat.old.queue seat.new.queue }
     {
         if let Err(fault) = self.begin_sending(seat, true, item) {
             return Err(fault);
@@ -136,6 +137,7 @@ impl<T: Drop> Channel<T> {
         ensures seat { IsSeatOf self.now seat.new }
         ensures call { MatchResult result (λ x. Receives self.now.queue.size x seat.old seat.new)
             (RefusesTryReceive self.now.queue.size seat.old seat.new) }
+        ensures awake { StaysAwake seat.old.queue seat.new.queue }
     {
         if let Err(fault) = self.begin_receiving(seat, true) {
             return Err(fault);

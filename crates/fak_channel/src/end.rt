@@ -5,7 +5,7 @@ ghost use Rattle.fak_model.specs.Queue.{Has, lower_count};
 ghost use Rattle.fak_model.specs.declared.queue.Kind.TheVariants.{Close};
 ghost use Rattle.fak_channel.specs.Channels.{ClosesAs, IsLength, OnlyLooks, Receives, RefusesReceive};
 ghost use Rattle.fak_channel.specs.Channels.{RefusesReceiveUntil, RefusesSend, RefusesSendUntil, RefusesTryReceive};
-ghost use Rattle.fak_channel.specs.Channels.{RefusesTrySend, Sends};
+ghost use Rattle.fak_channel.specs.Channels.{RefusesTrySend, Sends, StaysAwake};
 ghost use Rattle.fak_channel.specs.Standings.{IsSeatOf};
 
 use crate::channel::Channel;
@@ -79,6 +79,7 @@ impl<'c, T: Drop> End<'c, T> {
         ensures channel { self.new.channel ≡ self.old.channel }
         ensures call { MatchResult result (λ _. Sends self.old.channel.now.queue.size item self.old.seat self.new.seat)
             (RefusesTrySend self.old.channel.now.queue.size item self.old.seat self.new.seat) }
+        ensures awake { StaysAwake self.old.seat.queue self.new.seat.queue }
     {
         self.channel.try_send(rt, &mut self.seat, item)
     }
@@ -123,6 +124,7 @@ impl<'c, T: Drop> End<'c, T> {
         ensures channel { self.new.channel ≡ self.old.channel }
         ensures call { MatchResult result (λ x. Receives self.old.channel.now.queue.size x self.old.seat self.new.seat)
             (RefusesTryReceive self.old.channel.now.queue.size self.old.seat self.new.seat) }
+        ensures awake { StaysAwake self.old.seat.queue self.new.seat.queue }
     {
         self.channel.try_receive(rt, &mut self.seat)
     }

@@ -11,10 +11,12 @@ ghost use Rattle.fak_queue.specs.Sleepers.{as_role};
 ghost use Rattle.fak_queue.specs.SleeperSeats.{note_of};
 ghost use Rattle.fak_channel.specs.declared.channel.Channel.{Channel};
 ghost use Rattle.fak_channel.specs.declared.seat.ChannelSeat.{ChannelSeat};
+ghost use Rattle.fak_channel.specs.declared.standing.ChannelStep.{ChannelStep};
 ghost use Rattle.fak_channel.specs.declared.standing.ChannelStep.TheVariants.{Sleeps};
 ghost use Rattle.fak_channel.specs.declared.standing.Next.TheVariants.{Sleeping};
 ghost use Rattle.fak_channel.specs.declared.standing.Wish.{Wish};
 ghost use Rattle.fak_channel.specs.declared.standing.Wish.TheVariants.{Receive, Send};
+ghost use Rattle.fak_channel.specs.ChannelSteps.{KeepsAwake};
 ghost use Rattle.fak_channel.specs.EndsAtRest.{AllEndsRest, EndSleeps, RestsAs};
 ghost use Rattle.fak_channel.specs.Moves.{Moves};
 ghost use Rattle.fak_channel.specs.Standings.{IsBetweenCalls, IsStepSeatOf, role_of};
@@ -35,6 +37,12 @@ pub fn an_end_that_waits_owes_nothing<T>()
 pub fn an_end_that_sleeps_on_finds_its_bit_set<T>()
     ensures { (c : Channel T) (w : Wish T) (old new : ChannelSeat T) → old.standing.next ≡ Sleeping w → Moves c old new Sleeps
         → new.queue.notes ≡ note_of (as_role (role_of w) (FindsBit old.queue.seat.name true)) old.queue ∷ old.queue.notes }
+{}
+
+/// A try sets no bit of its own at any step, so it never sleeps.
+pub fn a_try_sets_no_bit<T>()
+    ensures { (c : Channel T) (old new : ChannelSeat T) (s : ChannelStep T) → IsStepSeatOf c old → Moves c old new s
+        → KeepsAwake old new }
 {}
 
 /// No wake-up is lost in a running channel. Between any two steps: if only sleepers have open calls, a receiver sleeps only if

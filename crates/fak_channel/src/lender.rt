@@ -1,15 +1,15 @@
 //! A lender of ends, for threads that have none.
 
-ghost use Rattle.std.specs.Prelude.{◌≡◌, IfOk, IsOk, MatchResult};
-ghost use Rattle.fak_channel.specs.declared.shelves.Shelf.{out-Shelf};
+ghost use Rattle.std.specs.Prelude.{IfOk, IsOk, MatchResult};
 ghost use Rattle.fak_channel.specs.Lending.{BusyOrRefusesReceive, BusyOrRefusesSend, SomeEndCloses};
-ghost use Rattle.fak_channel.specs.Lending.{SomeEndReceives, SomeEndRefusesReceive, SomeEndRefusesSend, SomeEndSends};
+ghost use Rattle.fak_channel.specs.Lending.{SomeEndReceives, SomeEndReceivesAtOnce, SomeEndRefusesReceive};
+ghost use Rattle.fak_channel.specs.Lending.{SomeEndRefusesSend, SomeEndSends, SomeEndSendsAtOnce};
 
 use crate::end::End;
 use crate::fault::{ChannelWorn, ReceiveFault, SendFault};
 use crate::lender_fault::{LenderReceiveFault, LenderSendFault};
 use crate::parker::time_left;
-use crate::shelves::{Notice, Shelf, Shelves};
+use crate::shelves::{Loan, Shelves};
 use std::alloc::{AllocError, Global};
 use std::fmt;
 use std::sync::{Condvar, Mutex, Wait};
@@ -28,11 +28,6 @@ pub struct Lender<'c, T> {
     put_aside: Condvar,
 }
 
-/// A lent end. It cannot be dropped, only given back (`Lender::take_back`) or kept (`into_end`).
-pub struct Loan<'c, T> {
-    shelf: Box<Shelf<'c, T>>,
-}
-
 impl<'c, T: Drop> Lender<'c, T> {
     /// A lender that has no end yet.
     pub fn new() -> Lender<'c, T> {
@@ -48,24 +43,24 @@ impl<'c, T: Drop> Lender<'c, T> {
     ///
     /// `AllocError`, if memory runs out; the end is dropped.
     pub fn add<R: Wait>(&self, rt: &R, alloc: Global, end: End<'c, T>) -> Result<(), AllocError> {
-        let shelf = Box::new(alloc, Shelf { end, below: None })?;
-        self.take_back(rt, Loan { shelf });
+        let loan = Loan::of(alloc, end)?;
+        self.take_back(rt, loan);
         Ok(())
     }
 
     /// Lends an end. The thread sleeps while all ends are lent.
     pub fn lend<R: Wait>(&self, rt: &R) -> Loan<'c, T> {
         let mut shelves = self.shelves.lock(rt);
-        if let Some(shelf) = shelves.take_idle() {
-            return Loan { shelf };
+        if let Some(loan) = shelves.take_idle() {
+            return loan;
         }
         shelves.begin_to_wait();
         for _ in rt.forever() {
             shelves = self
                 .put_aside
                 .wait_while(rt, shelves, |shelves| shelves.has_none_aside());
-            if let Some(shelf) = shelves.take_aside() {
-                return Loan { shelf };
+            if let Some(loan) = shelves.take_aside() {
+                return loan;
             }
         }
         unreachable!()
@@ -73,41 +68,30 @@ impl<'c, T: Drop> Lender<'c, T> {
 
     /// Lends an end, unless all ends are lent. The thread does not sleep for an end.
     pub fn try_lend<R: Wait>(&self, rt: &R) -> Option<Loan<'c, T>> {
-        let shelf = self.shelves.lock(rt).take_idle()?;
-        Some(Loan { shelf })
+        self.shelves.lock(rt).take_idle()
     }
 
     /// Lends an end. The thread sleeps while all ends are lent, until the deadline at most. A clock that cannot be read ends the
     /// wait.
     pub fn lend_deadline<R: Wait + Clock>(&self, rt: &R, deadline: Instant) -> Option<Loan<'c, T>> {
         let mut shelves = self.shelves.lock(rt);
-        if let Some(shelf) = shelves.take_idle() {
-            return Some(Loan { shelf });
+        if let Some(loan) = shelves.take_idle() {
+            return Some(loan);
         }
         shelves.begin_to_wait();
         let left = time_left(rt, deadline);
         let (mut shelves, _) = self
             .put_aside
             .wait_timeout_while(rt, shelves, left, |shelves| shelves.has_none_aside());
-        let shelf = shelves.stop_waiting()?;
-        Some(Loan { shelf })
+        shelves.stop_waiting()
     }
 
     /// Takes back an end that was lent, and wakes a borrower that waits for one.
     pub fn take_back<R: Wait>(&self, rt: &R, loan: Loan<'c, T>) {
-        let Loan { shelf } = loan;
-        let mut shelves = self.shelves.lock(rt);
-        let notice = shelves.give(shelf);
-        drop(shelves);
+        let notice = self.shelves.lock(rt).give(loan);
         if let Some(notice) = notice {
-            self.notify(notice);
+            notice.deliver(&self.put_aside);
         }
-    }
-
-    /// Wakes a borrower for whom an end was put aside.
-    fn notify(&self, notice: Notice) {
-        let Notice {} = notice;
-        self.put_aside.notify_one();
     }
 
     /// Sends the item by a borrowed end.
@@ -130,7 +114,7 @@ impl<'c, T: Drop> Lender<'c, T> {
     ///
     /// `Busy`, if all ends are lent; otherwise `Refused` with the fault of `End::try_send`. The item comes back.
     pub fn try_send<R: Wait>(&self, rt: &R, item: T) -> Result<(), LenderSendFault<T>>
-        ensures { MatchResult result (λ _. SomeEndSends item) (BusyOrRefusesSend item) }
+        ensures { MatchResult result (λ _. SomeEndSendsAtOnce item) (BusyOrRefusesSend item) }
     {
         let Some(mut loan) = self.try_lend(rt) else {
             return Err(LenderSendFault::Busy { item });
@@ -163,7 +147,7 @@ impl<'c, T: Drop> Lender<'c, T> {
     ///
     /// `Busy`, if all ends are lent; otherwise `Refused` with the fault of `End::try_receive`.
     pub fn try_receive<R: Wait>(&self, rt: &R) -> Result<T, LenderReceiveFault>
-        ensures { MatchResult result SomeEndReceives (BusyOrRefusesReceive T) }
+        ensures { MatchResult result SomeEndReceivesAtOnce (BusyOrRefusesReceive T) }
     {
         let Some(mut loan) = self.try_lend(rt) else {
             return Err(LenderReceiveFault::Busy);
@@ -192,32 +176,8 @@ impl<'c, T: Drop> Lender<'c, T> {
     }
 }
 
-impl<'c, T: Drop> Loan<'c, T> {
-    /// The lent end.
-    pub fn end(&mut self) -> &mut End<'c, T> {
-        &mut self.shelf.end
-    }
-
-    /// The end, which the lender does not get back. It calls by itself from now on; `end.channel` is its channel.
-    pub fn into_end(self) -> End<'c, T>
-        ensures { result ≡ (out-Shelf T self.entry.shelf.value).end }
-    {
-        let Loan { shelf } = self;
-        let Shelf { end, below: _ } = Box::into_inner(shelf);
-        end
-    }
-}
-
 impl<'c, T> fmt::Debug for Lender<'c, T> {
     fn fmt<W: fmt::Write>(&self, f: &mut fmt::Formatter<W>) -> fmt::Result {
         f.debug_struct("Lender").finish_non_exhaustive()
-    }
-}
-
-impl<'c, T> fmt::Debug for Loan<'c, T> {
-    fn fmt<W: fmt::Write>(&self, f: &mut fmt::Formatter<W>) -> fmt::Result {
-        f.debug_struct("Loan")
-            .field("end", &self.shelf.end)
-            .finish()
     }
 }

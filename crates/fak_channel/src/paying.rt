@@ -10,9 +10,10 @@ ghost use Rattle.fak_channel.specs.Moves.{ClearsBit, LoadsWord, LooksOnce, PaysC
 ghost use Rattle.fak_channel.specs.Standings.{CanLook};
 
 use crate::channel::Channel;
-use crate::progress::{Progress, Wake};
+use crate::progress::Progress;
 use crate::seat::ChannelSeat;
 use crate::standing::{CallStanding, Looks};
+use crate::stepping::Wake;
 use fak_queue::Role;
 
 impl<T> CallStanding<T> {
@@ -125,7 +126,7 @@ impl<T: Drop> Channel<T> {
         if seat.queue.clear(&self.queue, role, other) {
             seat.standing
                 .set_looks(role, looks.done_at(self.ends, other));
-            return Progress::Wakes(Wake { number: other });
+            return Progress::Wakes(Wake::of(other));
         }
         let again = Looks {
             is_owed: looks.is_owed,

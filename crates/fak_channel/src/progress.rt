@@ -1,11 +1,7 @@
 //! What a step of a call returns inside this crate.
 
 use crate::standing::Outcome;
-
-/// The thread of this end is to be woken, since its bit was cleared. It cannot be dropped, so no step loses a wake.
-pub(crate) struct Wake {
-    pub(crate) number: u64,
-}
+use crate::stepping::Wake;
 
 /// The result of a step of a call that is not done, as `ChannelStep`. It has no item in it, so that no step moves one.
 pub(crate) enum Progress {

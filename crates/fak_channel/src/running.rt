@@ -2,12 +2,13 @@
 //! parks while its own bit is set.
 
 ghost use Rattle.std.specs.Prelude.{◌≡◌, MatchOption, MatchResult, false, true};
-ghost use Rattle.fak_channel.specs.ChannelSteps.{EndsAll, GivesUp, RefusesAll, StopsAt, WakesNone};
+ghost use Rattle.fak_channel.specs.Channels.{StaysAwake};
+ghost use Rattle.fak_channel.specs.ChannelSteps.{EndsAll, GivesUp, KeepsAwake, RefusesAll, StopsAt, WakesNone};
 ghost use Rattle.fak_channel.specs.Standings.{IsAsleep, IsBetweenCalls, IsInCall, IsSeatOf, IsStepSeatOf};
 
 use crate::channel::Channel;
 use crate::parker::time_left;
-use crate::progress::{Progress, Stop, Wake};
+use crate::progress::{Progress, Stop};
 use crate::seat::ChannelSeat;
 use crate::standing::{Outcome, Wish};
 use crossbeam_utils::Backoff;
@@ -26,6 +27,7 @@ impl<T: Drop> Channel<T> {
         requires in_call { IsInCall seat.old }
         ensures stands { IsStepSeatOf self.now seat.new }
         ensures tries { seat.new.standing.tries ≡ seat.old.standing.tries }
+        ensures awake { KeepsAwake seat.old seat.new }
         ensures call { StopsAt self.now.queue.size seat.old seat.new result }
     {
         let backoff = Backoff::new();
@@ -37,18 +39,10 @@ impl<T: Drop> Channel<T> {
                 Progress::GoesOn => {}
                 Progress::NotYet => backoff.snooze(),
                 Progress::Sleeps => return Stop::Sleeps,
-                Progress::Wakes(wake) => self.wake(wake),
+                Progress::Wakes(wake) => wake.deliver(&self.parkers),
             }
         }
         unreachable!()
-    }
-
-    /// Wakes the thread of the end whose bit was cleared.
-    fn wake(&self, wake: Wake) {
-        let Wake { number } = wake;
-        if let Some(parker) = self.parkers.get(number as usize) {
-            parker.wake();
-        }
     }
 
     /// Rests once while the own bit is set: looks again at once, or parks the thread after `POLLS` looks. Returns how many
@@ -152,6 +146,7 @@ impl<T: Drop> Channel<T> {
         requires in_call { IsInCall seat.old }
         requires is_try { seat.old.standing.tries ≡ true }
         ensures seat { IsSeatOf self.now seat.new }
+        ensures awake { StaysAwake seat.old.queue seat.new.queue }
         ensures call { MatchResult result (EndsAll self.now.queue.size seat.old seat.new)
             (RefusesAll self.now.queue.size seat.old seat.new) }
     {

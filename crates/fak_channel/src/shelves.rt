@@ -1,20 +1,31 @@
-//! Which ends of a lender are idle, and which callers wait for one.
+//! Which ends of a lender are idle, and which callers wait for one. Other files can neither lose a lent end nor a notice: only this
+//! file can take them apart.
 
-ghost use Rattle.std.specs.Prelude.{◌≡◌, ◌≢◌, ◌↔◌, ◌+◌, ◌-◌, ◌^◌, IsTrue, MatchOption, None, min};
+ghost use Rattle.std.specs.Prelude.{◌≡◌, ◌≢◌, ◌↔◌, ◌+◌, ◌-◌, ◌^◌, IfOk, IsTrue, MatchOption, None, min};
 ghost use Rattle.std.specs.Option.{ForSome};
-ghost use Rattle.fak_channel.specs.Lending.{IsTaken, PutsOnTop, TakesTop};
+ghost use Rattle.fak_channel.specs.Lending.{IsTaken, PutsOnTop, TakesTop, end_of};
 
 use crate::end::End;
+use std::alloc::{AllocError, Global};
+use std::fmt;
+use std::sync::Condvar;
 
 /// An end that nobody uses, and those below it. The shelf is lent together with its end, so lending does not allocate.
 #[derive(Drop)]
-pub(crate) struct Shelf<'c, T> {
-    pub(crate) end: End<'c, T>,
-    pub(crate) below: Option<Box<Shelf<'c, T>>>,
+struct Shelf<'c, T> {
+    end: End<'c, T>,
+    below: Option<Box<Shelf<'c, T>>>,
 }
 
-/// One caller that waits is to be notified, since an end was put aside. It cannot be dropped, so no caller is forgotten.
-pub(crate) struct Notice {}
+/// A lent end. It cannot be dropped, only given back (`Lender::take_back`) or kept (`into_end`).
+pub struct Loan<'c, T> {
+    shelf: Box<Shelf<'c, T>>,
+}
+
+/// One caller that waits is to be notified, since an end was put aside. It cannot be dropped, only delivered.
+pub(crate) struct Notice {
+    _private: (),
+}
 
 /// What the lock of a lender guards. Nobody waits in vain: an end is idle only if an end was put aside for each caller that waits.
 #[derive(Drop)]
@@ -29,7 +40,7 @@ pub(crate) struct Shelves<'c, T> {
 }
 
 /// Takes the top shelf off, if there is one.
-fn take_off<'c, T: Drop>(shelves: &mut Option<Box<Shelf<'c, T>>>) -> Option<Box<Shelf<'c, T>>>
+fn take_off<'c, T: Drop>(shelves: &mut Option<Box<Shelf<'c, T>>>) -> Option<Loan<'c, T>>
     ensures taken { IsTaken shelves.old result }
     ensures top { TakesTop shelves.old shelves.new result }
     ensures none { result ≡ None → shelves.new ≡ None }
@@ -37,7 +48,43 @@ fn take_off<'c, T: Drop>(shelves: &mut Option<Box<Shelf<'c, T>>>) -> Option<Box<
 {
     let mut shelf = shelves.take()?;
     *shelves = shelf.below.take();
-    Some(shelf)
+    Some(Loan { shelf })
+}
+
+impl<'c, T: Drop> Loan<'c, T> {
+    /// A loan of an end that no lender has had yet.
+    ///
+    /// # Errors
+    ///
+    /// `AllocError`, if memory runs out; the end is dropped.
+    pub(crate) fn of(alloc: Global, end: End<'c, T>) -> Result<Loan<'c, T>, AllocError>
+        ensures { IfOk result (λ loan. end_of loan ≡ end.entry) }
+    {
+        let shelf = Box::new(alloc, Shelf { end, below: None })?;
+        Ok(Loan { shelf })
+    }
+
+    /// The lent end.
+    pub fn end(&mut self) -> &mut End<'c, T> {
+        &mut self.shelf.end
+    }
+
+    /// The end, which the lender does not get back. It calls by itself from now on; `end.channel` is its channel.
+    pub fn into_end(self) -> End<'c, T>
+        ensures { result ≡ end_of self.entry }
+    {
+        let Loan { shelf } = self;
+        let Shelf { end, below: _ } = Box::into_inner(shelf);
+        end
+    }
+}
+
+impl Notice {
+    /// Wakes a caller that waits.
+    pub(crate) fn deliver(self, put_aside: &Condvar) {
+        let Notice { _private: () } = self;
+        put_aside.notify_one();
+    }
 }
 
 impl<'c, T: Drop> Shelves<'c, T> {
@@ -52,7 +99,7 @@ impl<'c, T: Drop> Shelves<'c, T> {
     }
 
     /// An idle end, if there is one. With none, the shelves stay as they were.
-    pub(crate) fn take_idle(&mut self) -> Option<Box<Shelf<'c, T>>>
+    pub(crate) fn take_idle(&mut self) -> Option<Loan<'c, T>>
         ensures waiting { self.new.waiting ≡ self.old.waiting }
         ensures aside { self.new.aside ≡ self.old.aside }
         ensures top { TakesTop self.old.idle self.new.idle result }
@@ -80,7 +127,7 @@ impl<'c, T: Drop> Shelves<'c, T> {
     }
 
     /// An end that was put aside, if there is one. A caller that waits takes it, and waits no longer.
-    pub(crate) fn take_aside(&mut self) -> Option<Box<Shelf<'c, T>>>
+    pub(crate) fn take_aside(&mut self) -> Option<Loan<'c, T>>
         ensures waiting { self.new.waiting ≡ self.old.waiting }
         ensures idle { self.new.idle ≡ self.old.idle }
         ensures top { TakesTop self.old.aside self.new.aside result }
@@ -90,7 +137,7 @@ impl<'c, T: Drop> Shelves<'c, T> {
     }
 
     /// The end of a wait at its deadline: an end that was put aside, or none, and the caller waits no longer.
-    pub(crate) fn stop_waiting(&mut self) -> Option<Box<Shelf<'c, T>>>
+    pub(crate) fn stop_waiting(&mut self) -> Option<Loan<'c, T>>
         ensures end { IsTaken self.old.aside result }
         ensures idle { self.new.idle ≡ self.old.idle }
         ensures top { TakesTop self.old.aside self.new.aside result }
@@ -104,14 +151,15 @@ impl<'c, T: Drop> Shelves<'c, T> {
     }
 
     /// Takes an end: it is put aside for a caller that waits, who is to be notified; or it is idle, if none waits.
-    pub(crate) fn give(&mut self, mut shelf: Box<Shelf<'c, T>>) -> Option<Notice>
+    pub(crate) fn give(&mut self, loan: Loan<'c, T>) -> Option<Notice>
         ensures none { MatchOption result (self.old.waiting ≡ 0) (λ _. self.new.waiting + 1 ≡ self.old.waiting) }
         ensures kept { MatchOption result (self.new.idle ≢ None) (λ _. self.new.aside ≢ None) }
-        ensures idle { MatchOption result (PutsOnTop shelf.entry self.old.idle self.new.idle)
+        ensures idle { MatchOption result (PutsOnTop loan.entry self.old.idle self.new.idle)
             (λ _. self.new.idle ≡ self.old.idle) }
         ensures aside { MatchOption result (self.new.aside ≡ self.old.aside)
-            (λ _. PutsOnTop shelf.entry self.old.aside self.new.aside) }
+            (λ _. PutsOnTop loan.entry self.old.aside self.new.aside) }
     {
+        let Loan { mut shelf } = loan;
         if self.waiting == 0 {
             shelf.below = self.idle.take();
             self.idle = Some(shelf);
@@ -120,6 +168,14 @@ impl<'c, T: Drop> Shelves<'c, T> {
         self.waiting -= 1;
         shelf.below = self.aside.take();
         self.aside = Some(shelf);
-        Some(Notice {})
+        Some(Notice { _private: () })
+    }
+}
+
+impl<'c, T> fmt::Debug for Loan<'c, T> {
+    fn fmt<W: fmt::Write>(&self, f: &mut fmt::Formatter<W>) -> fmt::Result {
+        f.debug_struct("Loan")
+            .field("end", &self.shelf.end)
+            .finish()
     }
 }

@@ -9,7 +9,8 @@ ghost use Rattle.fak_channel.specs.Moves.{GivesUpAt, IsDone, Moves, MovesNext, s
 ghost use Rattle.fak_channel.specs.Standings.{IsAsleep, IsBetweenCalls, IsInCall, IsStepSeatOf, OwesNone};
 
 use crate::channel::Channel;
-use crate::progress::{Progress, Wake};
+use crate::parker::Parker;
+use crate::progress::Progress;
 use crate::seat::ChannelSeat;
 use crate::standing::{ChannelStep, Next, Outcome, Wish};
 use fak_queue::Role;
@@ -17,6 +18,29 @@ use std::mem;
 
 /// The most steps that `steps` takes.
 pub const STEPS_AT_ONCE: u64 = 16;
+
+/// The thread of this end is to be woken, since its bit was cleared. It cannot be dropped, and only this file can take it apart. So
+/// no step loses a wake: other files can only deliver it.
+pub(crate) struct Wake {
+    number: u64,
+}
+
+impl Wake {
+    /// The wake of the end with this number.
+    pub(crate) fn of(number: u64) -> Wake
+        ensures { result.number ≡ number }
+    {
+        Wake { number }
+    }
+
+    /// Wakes the thread of that end by its parker.
+    pub(crate) fn deliver(self, parkers: &[Parker]) {
+        let Wake { number } = self;
+        if let Some(parker) = parkers.get(number as usize) {
+            parker.wake();
+        }
+    }
+}
 
 impl<T: Drop> Channel<T> {
     /// The outcome of a call that is done. No call is open then.
