@@ -1,7 +1,7 @@
 //! What follows of the blocks of a queue core for known seats, counts and sizes: one load, add or subtraction for two or three
 //! seats. Marks are listed with the newest first.
 
-ghost use Rattle.std.specs.Prelude.{◌≡◌, ℕ, ◌+◌, ◌<◌, ◌++◌, List, Some, [], ◌∷◌, false, pos, true};
+ghost use Rattle.std.specs.Prelude.{◌≡◌, ℕ, ◌<◌, List, Some, [], ◌∷◌, false, pos, true};
 ghost use Rattle.fak_core.specs.QueueBlocks.{AreApart, Posts, Stand, block, names_of, tested, tested_low};
 ghost use Rattle.fak_core.specs.QueueMoves.{QueueState, history_of};
 ghost use Rattle.fak_core.specs.QueueSchedule.{Advances, Deletes, Inserts, IsReached, QueueEvent, reached, run};

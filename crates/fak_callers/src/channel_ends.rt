@@ -1,6 +1,6 @@
 //! What follows for the callers of channels: nobody sleeps while there is an item, a free cell or a close.
 
-ghost use Rattle.std.specs.Prelude.{◌≡◌, ◌≢◌, ℕ, ◌<◌, true, Option, length, reverse};
+ghost use Rattle.std.specs.Prelude.{◌≡◌, ℕ, ◌<◌, true, Option, length, reverse};
 ghost use Rattle.atomic_table.specs.Table.{State};
 ghost use Rattle.fak_model.specs.Queue.{contents};
 ghost use Rattle.fak_queue.specs.declared.limits.QueueLimits.{QueueLimits};

@@ -1,6 +1,6 @@
 //! The calls of an end, each of which begins and takes its steps until it is done.
 
-ghost use Rattle.std.specs.Prelude.{◌≡◌, IfOk, IsOk, MatchResult};
+ghost use Rattle.std.specs.Prelude.{IfOk, IsOk, MatchResult};
 ghost use Rattle.fak_channel.specs.Channels.{ClosesAs, Receives, RefusesReceive, RefusesReceiveUntil, RefusesSend};
 ghost use Rattle.fak_channel.specs.Channels.{RefusesSendUntil, RefusesTryReceive, RefusesTrySend, Sends, StaysAwake};
 ghost use Rattle.fak_channel.specs.Standings.{IsSeatOf};

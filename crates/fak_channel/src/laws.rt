@@ -1,6 +1,6 @@
 //! What callers can conclude from the standing of an end.
 
-ghost use Rattle.std.specs.Prelude.{◌≡◌, ℕ, ◌<◌, ◌∷◌, true, false, List, [], Option, length, reverse};
+ghost use Rattle.std.specs.Prelude.{◌≡◌, ℕ, ◌<◌, ◌∷◌, true, false, [], Option, length, reverse};
 ghost use Rattle.atomic_table.specs.Table.{State};
 ghost use Rattle.fak_model.specs.declared.note.Sign.TheVariants.{FindsBit};
 ghost use Rattle.fak_model.specs.Queue.{contents};

@@ -1,6 +1,6 @@
 //! Looks at a channel, which leave no mark. A call of the seat may be open.
 
-ghost use Rattle.std.specs.Prelude.{◌≡◌, ◌↔◌, IsTrue, pos, ◌≤ℤ◌};
+ghost use Rattle.std.specs.Prelude.{◌≡◌, ◌↔◌, IsTrue};
 ghost use Rattle.fak_model.specs.Queue.{Has, lower_count, upper_count};
 ghost use Rattle.fak_model.specs.declared.queue.Kind.TheVariants.{Close};
 ghost use Rattle.fak_queue.specs.Queues.{drawn_by};

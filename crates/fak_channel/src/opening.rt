@@ -1,6 +1,6 @@
 //! How a channel is opened.
 
-ghost use Rattle.std.specs.Prelude.{◌≡◌, ◌≤◌, All, IfOk, MatchResult, pos, vec_len};
+ghost use Rattle.std.specs.Prelude.{◌≡◌, All, IfOk, MatchResult};
 ghost use Rattle.fak_model.specs.Limits.{IsInLargeRange, IsLargeFault};
 ghost use Rattle.fak_queue.specs.Refusals.{IsLargeSize};
 ghost use Rattle.fak_queue.specs.SleeperSeats.{fresh_sleeper, undealt_info};

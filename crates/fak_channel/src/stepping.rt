@@ -6,7 +6,7 @@ ghost use Rattle.fak_channel.specs.declared.standing.ChannelStep.TheVariants.{En
 ghost use Rattle.fak_channel.specs.declared.standing.Next.TheVariants.{Ending};
 ghost use Rattle.fak_channel.specs.declared.standing.Outcome.{Outcome};
 ghost use Rattle.fak_channel.specs.Moves.{GivesUpAt, IsDone, Moves, MovesNext, step_of};
-ghost use Rattle.fak_channel.specs.Standings.{IsAsleep, IsBetweenCalls, IsInCall, IsStepSeatOf, OwesNone};
+ghost use Rattle.fak_channel.specs.Standings.{IsAsleep, IsBetweenCalls, IsInCall, IsStepSeatOf};
 
 use crate::channel::Channel;
 use crate::parker::Parker;

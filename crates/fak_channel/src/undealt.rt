@@ -1,6 +1,6 @@
 //! The seats of a channel that are still to be dealt.
 
-ghost use Rattle.std.specs.Prelude.{◌≡◌, ℕ};
+ghost use Rattle.std.specs.Prelude.{ℕ};
 ghost use Rattle.fak_channel.specs.declared.channel.Channel.{Channel};
 ghost use Rattle.fak_channel.specs.Undealt.{AreUndealt, DealsNext};
 

@@ -85,6 +85,10 @@ close_wakes_receiver = close_owes ++ as_sender 1 (PassesWord 0 ∷ []) ++ Checks
 abbrev pub receiver_is_told : List (SleeperEvent ℕ)
 receiver_is_told = close_wakes_receiver ++ as_receiver 0 (IsWoken ∷ []) ++ finds_none 0
 
+-- end 1 closes the empty channel, and end 2 closes it again
+abbrev pub closed_twice : List (SleeperEvent ℕ)
+closed_twice = close_owes ++ shuts 2
+
 -- end 0 sleeps before a shut of end 1 that comes between its two tests: it does not fall asleep
 abbrev pub receiver_tests_drained : List (SleeperEvent ℕ)
 receiver_tests_drained = finds_none 0 ++ as_receiver 0 (Registers ∷ FindsNoItem ∷ []) ++ shuts 1 ++ as_receiver 0 (FallsAsleep ∷ [])
@@ -197,3 +201,17 @@ two_looks = record { stage = Awake; looks = 2; passed = λ w. false }
 -- only the bit of this name is set
 abbrev pub bit_of : ℕ → ℕ → Bool
 bit_of k j = j == k
+
+-- ---- rounds
+
+-- in each of k rounds the three ends take one step of their calls on the queue
+abbrev pub rounds_of_three : ℕ → List (List (SleeperEvent ℕ))
+rounds_of_three k = replicate k (advances 0 1 ++ advances 1 1 ++ advances 2 1)
+
+-- end 0 has begun an insertion
+abbrev pub insertion_begins : List (SleeperEvent ℕ)
+insertion_begins = OfQueue (Inserts 0 7) ∷ []
+
+-- in the last of these rounds its insertion ends, and it begins another
+abbrev pub insertion_begins_again : List (List (SleeperEvent ℕ))
+insertion_begins_again = rounds_of_three 6 ++ (advances 0 1 ++ insertion_begins) ∷ []

@@ -1,6 +1,5 @@
 //! Ends whose calls go by steps, for tests: the test decides who waits, and how.
 
-ghost use Rattle.std.specs.Prelude.{◌≡◌};
 ghost use Rattle.fak_channel.specs.Standings.{IsStepSeatOf};
 ghost use Rattle.fak_channel.proofs.OneProof.{stands_prop};
 

@@ -1,6 +1,6 @@
 //! Queues whose seats can sleep: opening, dealing and joining.
 
-ghost use Rattle.std.specs.Prelude.{◌≡◌, MatchResult, [], Some};
+ghost use Rattle.std.specs.Prelude.{◌≡◌, MatchResult, Some};
 ghost use Rattle.fak_model.specs.Calls.{IsJoined, tally_of};
 ghost use Rattle.fak_model.specs.Histories.{AreNamed};
 ghost use Rattle.fak_model.specs.Limits.{IsInLargeRange, IsLargeFault};

@@ -1,6 +1,5 @@
 //! Insertions and deletions by single attempts, which are repeated if the queue is full or empty.
 
-ghost use Rattle.std.specs.Prelude.{◌≡◌};
 ghost use Rattle.fak_queue.specs.Queues.{IsIdleSeat};
 
 use crossbeam_utils::Backoff;

@@ -3,7 +3,6 @@
 ghost use Rattle.std.specs.Prelude.{◌≡◌, ◌≤◌, All};
 ghost use Rattle.std.specs.VecDeque.{deque_capacity, deque_len};
 ghost use Rattle.fak_queue.specs.BundleCalls.{IsIdleBundle};
-ghost use Rattle.fak_queue.specs.Queues.{IsIdleSeat};
 
 use super::assertions::assert_case;
 use super::items::add;

@@ -1,6 +1,5 @@
 //! Random bursts of one thread, compared with a plain list.
 
-ghost use Rattle.std.specs.Prelude.{◌≡◌};
 ghost use Rattle.fak_queue.specs.BundleCalls.{IsIdleBundle};
 
 use super::assertions::{assert_case, assert_equal};

@@ -1,7 +1,7 @@
 //! Seats that can sleep: their calls on the queue, their steps on the bits, and two threads of which one sleeps.
 
 ghost use Rattle.std.specs.Prelude.{◌≡◌};
-ghost use Rattle.fak_channel_core.specs.SleeperSides.{Asleep, Awake, PastLower, Registered, Woken};
+ghost use Rattle.fak_channel_core.specs.SleeperSides.{Asleep, Awake, Registered};
 ghost use Rattle.fak_queue.specs.declared.role.Role.TheVariants.{Receiver, Sender};
 ghost use Rattle.fak_queue.specs.Queues.{IsIdleSeat};
 ghost use Rattle.fak_queue.specs.Sleepers.{duty_as};

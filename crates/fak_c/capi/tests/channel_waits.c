@@ -437,6 +437,25 @@ void a_cancelled_call_ends_first(void) {
 /* ---- Turns ---- */
 
 static atomic_ullong turn, done;
+/* The lending whose borrowers stay for some time, and how many of them are in. */
+static fak_channel_lending *_Atomic watched;
+static atomic_int inside;
+
+int32_t __real_fak_channel_lending_borrow(fak_channel_lending *lending, bool may_wait, uint64_t *number);
+int32_t __wrap_fak_channel_lending_borrow(fak_channel_lending *lending, bool may_wait, uint64_t *number);
+
+/* The caller holds the lock of the lending. It stays so long that another borrower comes, which must not get in. */
+int32_t __wrap_fak_channel_lending_borrow(fak_channel_lending *lending, bool may_wait, uint64_t *number) {
+    int32_t code;
+    if (lending != atomic_load(&watched))
+        return __real_fak_channel_lending_borrow(lending, may_wait, number);
+    CHECK(atomic_fetch_add(&inside, 1) == 0);
+    for (int yields = 0; yields < 100; yields++)
+        sched_yield();
+    code = __real_fak_channel_lending_borrow(lending, may_wait, number);
+    atomic_fetch_sub(&inside, 1);
+    return code;
+}
 
 typedef struct {
     pthread_t thread;
@@ -473,6 +492,7 @@ static void take_turns(size_t senders, uint64_t rounds) {
     turner turners[2];
     CHECK(fak_channel_shared_open(&shared, ends, senders, 1, CELLS, LONG_STINT) == FAK_C_OK);
     lend_others(&shared.senders, true);
+    atomic_store(&watched, &shared.senders.lending);
     atomic_store(&turn, 0);
     atomic_store(&done, 0);
     for (int i = 0; i < 2; i++) {
@@ -490,6 +510,7 @@ static void take_turns(size_t senders, uint64_t rounds) {
     }
     for (int i = 0; i < 2; i++)
         CHECK(pthread_join(turners[i].thread, NULL) == 0);
+    atomic_store(&watched, NULL);
     lend_others(&shared.senders, false);
     CHECK(fak_channel_shared_leave(&shared) == FAK_C_OK);
 }

@@ -1,12 +1,14 @@
 //! Known schedules of a channel whose sleepers are bits, on both sides of the definitions.
 
-ghost use Rattle.std.specs.Prelude.{ℕ, ◌≡◌, ◌∷◌, [], false, true, pos};
+ghost use Rattle.std.specs.Prelude.{ℕ, ◌≡◌, ◌∷◌, ◌++◌, [], false, true};
 ghost use Rattle.fak_model.specs.Queue.{contents};
 ghost use Rattle.fak_core.specs.QueueMoves.{history_of};
-ghost use Rattle.fak_channel_core.specs.SleeperExamples.{after_schedule, bit_of, busy_end_signs, close_owes, close_wakes_receiver, close_wakes_sender, deadline_comes, deadline_is_late, deletion_withdraws, insertion_withdraws, item_is_missing, last_deletion_ends, late_insertion_withdraws, looker_signs, one_look, receiver_ends, receiver_is_told, receiver_owes, receiver_sleeps, receiver_takes_back, receiver_tests, receiver_tests_drained, receiver_wakes, sender_ends, sender_is_told, sender_owes, sender_sleeps, sender_tests, sender_tests_closed, sender_wakes, sleeper_signs, stranger_signs, two_looks, wake_is_passed_on, woken_end_registers, woken_receiver_claims_too_much, woken_sender_claims_too_late, woken_sender_claims_too_much, woken_sender_is_refused, woken_sender_tests};
-ghost use Rattle.fak_channel_core.specs.SleeperProgress.{ComesOn, steps_to_rest};
-ghost use Rattle.fak_channel_core.specs.SleeperSchedule.{AllEndsRest, IsResting, ReceiverSleeps, SenderSleeps};
-ghost use Rattle.fak_model.specs.declared.note.Sign.TheVariants.{FindsBit, FindsWord, PassesWord, WakesEnd};
+ghost use Rattle.fak_core.specs.QueueProgress.{IsRound};
+ghost use Rattle.fak_core.specs.QueueSchedule.{Advances};
+ghost use Rattle.fak_channel_core.specs.SleeperExamples.{advances, after_schedule, as_receiver, bit_of, busy_end_signs, close_owes, close_wakes_receiver, close_wakes_sender, closed_twice, deadline_comes, deadline_is_late, deletion_withdraws, insertion_begins, insertion_begins_again, insertion_withdraws, item_is_missing, last_deletion_ends, late_insertion_withdraws, looker_signs, one_look, receiver_ends, receiver_is_told, receiver_owes, receiver_sleeps, receiver_takes_back, receiver_tests, receiver_tests_drained, receiver_wakes, rounds_of_three, sender_ends, sender_is_told, sender_owes, sender_sleeps, sender_tests, sender_tests_closed, sender_wakes, sleeper_signs, stranger_signs, two_looks, wake_is_passed_on, woken_end_registers, woken_receiver_claims_too_much, woken_sender_claims_too_late, woken_sender_claims_too_much, woken_sender_is_refused, woken_sender_tests};
+ghost use Rattle.fak_channel_core.specs.SleeperProgress.{ComesOn, EndsCallWithin, steps_to_rest};
+ghost use Rattle.fak_channel_core.specs.SleeperSchedule.{AllEndsRest, IsResting, ReceiverSleeps, SenderSleeps, queue_events};
+ghost use Rattle.fak_model.specs.declared.note.Sign.TheVariants.{FindsBit, FindsWord, PassesWord, Registers, WakesEnd};
 ghost use Rattle.fak_channel_core.specs.SleeperMoves.{receiver_side};
 ghost use Rattle.fak_channel_core.specs.SleeperSides.{Awake, Duty, PastLower, Registered, Woken, after_sign, is_clear, may_sign, owes_look};
 
@@ -60,7 +62,7 @@ pub fn a_deadline_loses_no_wake_up()
 {}
 
 /// A close owes a look for a sender, and a check; in a drained channel the check owes a look for a receiver. An end that is
-/// told of the close owes a look for the next of its kind.
+/// told of the close owes a look for the next of its kind. A second close owes the same.
 pub fn a_close_wakes_either_side()
     ensures owes { (((after_schedule close_owes).accounts 1).sender.looks ≡ 1)
         × (((after_schedule close_owes).accounts 1).checks ≡ true) }
@@ -72,6 +74,8 @@ pub fn a_close_wakes_either_side()
         × IsResting (after_schedule close_wakes_sender) 0 }
     ensures refused { (((after_schedule sender_is_told).accounts 2).sender.stage ≡ Awake)
         × (((after_schedule sender_is_told).accounts 2).sender.looks ≡ 1) }
+    ensures twice { (((after_schedule closed_twice).accounts 2).sender.looks ≡ 1)
+        × (((after_schedule closed_twice).accounts 2).checks ≡ true) }
 {}
 
 /// A call that withdraws gives back a cell or an item, and owes a look. A withdrawal or the last deletion may leave a shut
@@ -147,4 +151,18 @@ pub fn the_steps_to_rest_are_judged()
     ensures woken { steps_to_rest 3 (after_schedule woken_end_registers) 0 ≡ 5 }
     ensures comes { ComesOn 3 1 (after_schedule sender_owes) 1 }
     ensures rests { ComesOn 3 1 (after_schedule receiver_sleeps) 0 → ⊥ }
+{}
+
+/// In a round each of the first ends takes a step of its call on the queue. What an end does with its bit, and what other
+/// ends do, does not count. In a channel with one cell an insertion needs all of the seven rounds that the law allows: after
+/// six it is open. A call has ended although the end begins another at once.
+pub fn the_rounds_of_a_channel_are_judged()
+    ensures round { IsRound {A = ℕ} 2 (queue_events 2 (advances 1 1 ++ as_receiver 0 (Registers ∷ []) ++ advances 0 1)) }
+    ensures each { IsRound {A = ℕ} 2 (queue_events 2 (advances 0 1 ++ as_receiver 1 (Registers ∷ []))) → ⊥ }
+    ensures others { queue_events 2 (advances 2 1 ++ advances 1 1) ≡ Advances 1 ∷ [] }
+    ensures six { EndsCallWithin 3 1 (rounds_of_three 6) (after_schedule insertion_begins) 0 → ⊥ }
+    ensures seven { EndsCallWithin 3 1 (rounds_of_three 7) (after_schedule insertion_begins) 0 }
+    ensures again { EndsCallWithin 3 1 insertion_begins_again (after_schedule insertion_begins) 0 }
+    ensures open { EndsCallWithin 3 1 [] (after_schedule insertion_begins) 0 → ⊥ }
+    ensures idle { EndsCallWithin 3 1 [] (after_schedule insertion_begins) 1 }
 {}
