@@ -47,7 +47,7 @@ def types_in(text):
     """The same for types and traits; and for the ghost members that a type gives to traits."""
     text = re.sub(r"^\s*//.*\n|^\s*#\[.*\]\n", "", text, flags=re.MULTILINE)
     yield from re.findall(r"^(?:pub(?:\(\w+\))? )?(?:struct|enum|trait) (\w+)(.*?(?:;|\{\}|^\}))$", text, re.MULTILINE | re.DOTALL)
-    for name, body in re.findall(r"^(?:unsafe )?impl\b.* for (\w+).*?\{$(.*?)^\}$", text, re.MULTILINE | re.DOTALL):
+    for name, body in re.findall(r"^(?:unsafe )?impl\b[^{}]*? for (\w+)[^{}]*\{$(.*?)^\}$", text, re.MULTILINE | re.DOTALL):
         members = re.findall(r"^    ghost (?!use ).*?;$", body, re.MULTILINE | re.DOTALL)
         if members:
             yield name, " ".join(members)

@@ -1,7 +1,13 @@
-//! Bundles: their limits, and threads that share a queue by bursts. The calls are in `rows.rs`.
+//! Bundles: their limits, bursts compared with a plain list, and threads that share a queue by bursts. Each call and each code is in
+//! `rows.rs`.
 
-use fak_seats::{limits, Bundle, Burst, Fault, Seat, Step};
+use fak_seats::{limits, Bundle, Burst, Fault, Seat, State, Step};
+use std::collections::VecDeque;
 use std::thread::{spawn, yield_now};
+
+fn burst(ticket: u64, count: usize, left: usize) -> Result<Burst, Fault> {
+    Ok(Burst { ticket, count, left })
+}
 
 #[test]
 fn openings_have_limits() {
@@ -27,6 +33,63 @@ fn openings_have_limits() {
     assert_eq!(Bundle::open::<1, 0>(3, 4, 5).err(), Some(Fault::BadLimit));
     assert_eq!(Bundle::open::<1, 1>(3, 0, 5).err(), Some(Fault::BadLimit));
     assert_eq!(Bundle::open::<1, 1>(3, (1 << 24) + 1, 5).err(), Some(Fault::BadLimit));
+}
+
+// What was filled can be taken out meanwhile.
+#[test]
+fn a_burst_of_insertions_goes_on_in_another_thread() {
+    let ([mut seat], [mut a, mut b]) = Bundle::open::<1, 2>(3, 3, 9).unwrap();
+    let mut out = [0; 3];
+    assert_eq!((a.insert_burst(&[1, 2, 3]), b.delete_burst(&mut out[..1])), (burst(0, 3, 0), burst(0, 1, 0)));
+    assert_eq!((seat.claim_delete(), b.delete_burst(&mut out)), (Ok(1), burst(2, 1, 0)));
+    assert_eq!((a.insert_burst(&[4, 5, 6]), a.state(), a.unfinished()), (burst(3, 2, 1), State::Inserting(4), 1));
+    assert_eq!((b.delete_burst(&mut out), out[0], a.try_fill_burst()), (burst(3, 1, 0), 4, Ok(1)));
+    let a = spawn(move || {
+        assert_eq!((seat.try_take(), a.try_fill_burst(), a.state()), (Ok(Step::Done(2)), Ok(0), State::Idle));
+        a
+    });
+    let mut a = a.join().unwrap();
+    assert_eq!((a.try_fill_burst(), b.delete_burst(&mut out), out[0]), (Err(Fault::WrongState), burst(4, 1, 0), 5));
+}
+
+// Drawn numbers, by a generator of congruences.
+struct Drawn(u64);
+
+impl Drawn {
+    fn below(&mut self, bound: u64) -> u64 {
+        self.0 = self.0.wrapping_mul(6_364_136_223_846_793_005).wrapping_add(1_442_695_040_888_963_407);
+        (self.0 >> 33) % bound
+    }
+}
+
+#[test]
+fn random_bursts_are_those_of_a_list() {
+    let mut drawn = Drawn(1);
+    for (size, width) in [(1, 1), (1, 5), (3, 2), (7, 7), (16, 4), (50, 9)] {
+        let ([mut seat], mut bundles) = Bundle::open::<1, 3>(width, size, 1 << 30).unwrap();
+        let (mut list, mut put, mut got) = (VecDeque::new(), 0, 0);
+        for call in 0..3_000 {
+            let bundle = &mut bundles[drawn.below(3) as usize];
+            let n = 1 + drawn.below(12) as usize;
+            if drawn.below(8) == 0 {
+                assert_eq!(seat.count(), list.len() as i64);
+            } else if (drawn.below(4) > 0) == (call / 64 % 2 == 0) {
+                let items: Vec<u64> = (0..n).map(|_| drawn.below(1 << 31)).collect();
+                let count = n.min(width as usize).min(size as usize - list.len());
+                let wanted = if count == 0 { Err(Fault::Full) } else { burst(put, count, 0) };
+                assert_eq!(bundle.insert_burst(&items), wanted);
+                list.extend(&items[..count]);
+                put += count as u64;
+            } else {
+                let mut items = [u64::MAX; 12];
+                let count = n.min(width as usize).min(list.len());
+                let wanted = if count == 0 { Err(Fault::Empty) } else { burst(got, count, 0) };
+                assert_eq!(bundle.delete_burst(&mut items[..n]), wanted);
+                assert!(items[..count].iter().copied().eq(list.drain(..count)) && items[count..].iter().all(|item| *item == u64::MAX));
+                got += count as u64;
+            }
+        }
+    }
 }
 
 fn put_all(bundle: &mut Bundle, mut items: &[u64]) {

@@ -268,7 +268,7 @@ int32_t fak_channel_shared_leave_with(
 enum {
     FAK_CHANNEL_IDLE = 0,    /* no call is open */
     FAK_CHANNEL_OPEN = 1,    /* a call is open: fak_channel_step is next */
-    FAK_CHANNEL_SLEEPING = 2 /* a call is open, and sleeps: fak_channel_step, or fak_channel_give_up */
+    FAK_CHANNEL_SLEEPING = 2 /* a call is open, and sleeps, or would if it were no try: fak_channel_step, or fak_channel_give_up */
 };
 
 /* Opens an empty channel of `size` cells (1 to 2^24). The handle of index i gets the end of number i.
@@ -294,7 +294,8 @@ int32_t fak_channel_begin_close(fak_c_seat *end);
  * - FAK_C_NOT_YET: it waits for a step of another end's open call. Yield the processor, and step again. A coroutine that only yields to
  *   others of its thread keeps the processor from the thread that has to step.
  * - FAK_C_WAKES: wake the thread of the end of `number` now, and step again.
- * - FAK_C_SLEEPS: sleep until this end is woken, and step again. A step that finds no wake-up returns this code again.
+ * - FAK_C_SLEEPS: sleep until this end is woken, and step again. A step that finds no wake-up returns this code again. Nobody wakes a tried
+ *   call: give it up, or step again to try once more.
  * - FAK_C_OK: the item was sent; or was received, and is written to `item`; or the channel was open, and is closed now.
  * - FAK_C_CLOSED: the channel is closed. A send's item is written to `item`. To a receive nothing is left. A close found it closed.
  * - FAK_C_NO_SEAT; or FAK_C_WRONG_STATE if no call is open.

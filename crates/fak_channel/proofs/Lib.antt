@@ -15,3 +15,4 @@ pub mod Deals
 pub mod Pieces
 pub mod Callers
 pub mod Trying
+pub mod Drained

@@ -71,3 +71,14 @@ pub record HasClaimedOut {T : Type 0} (size k : ℕ) (old now : SeatInfo (Mark T
   pub made : HasMade size (made.ClaimOut ∷ made.Got item ∷ []) old now
   pub ticket : count gots (before_own 1 old now) ≡ k
   pub put : item_at (items_put now.seen) k ≡ Some item
+
+-- ---- calls that have ended
+
+-- the end of an insertion, and of a deletion
+abbrev pub end_in_of : {T : Type 0} → Kind T → ℕ
+end_in_of made.EndIn = 1
+end_in_of _ = 0
+
+abbrev pub end_out_of : {T : Type 0} → Kind T → ℕ
+end_out_of made.EndOut = 1
+end_out_of _ = 0

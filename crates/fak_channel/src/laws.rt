@@ -1,11 +1,13 @@
 //! What callers can conclude from the standing of an end.
 
-ghost use Rattle.std.specs.Prelude.{◌≡◌, ℕ, ◌<◌, ◌∷◌, true, false, [], Option, length, reverse};
+ghost use Rattle.std.specs.Prelude.{◌≡◌, ℕ, ◌<◌, ◌∷◌, true, false, List, [], Option, length, reverse};
 ghost use Rattle.atomic_table.specs.Table.{State};
 ghost use Rattle.fak_model.specs.declared.note.Sign.TheVariants.{FindsBit};
-ghost use Rattle.fak_model.specs.Queue.{contents};
+ghost use Rattle.fak_model.specs.declared.queue.Mark.{Mark};
+ghost use Rattle.fak_model.specs.Queue.{IsQueueHistory, contents, count};
 ghost use Rattle.fak_channel_core.specs.SleeperSides.{Asleep, Awake};
 ghost use Rattle.fak_queue.specs.declared.limits.QueueLimits.{QueueLimits};
+ghost use Rattle.fak_queue.specs.Drained.{IsDrained, claim_in_of, claim_out_of};
 ghost use Rattle.fak_queue.specs.Shown.{IsShownQueue, QueueView};
 ghost use Rattle.fak_queue.specs.Sleepers.{as_role};
 ghost use Rattle.fak_queue.specs.SleeperSeats.{note_of};
@@ -16,10 +18,13 @@ ghost use Rattle.fak_channel.specs.declared.standing.ChannelStep.TheVariants.{Sl
 ghost use Rattle.fak_channel.specs.declared.standing.Next.TheVariants.{Sleeping};
 ghost use Rattle.fak_channel.specs.declared.standing.Wish.{Wish};
 ghost use Rattle.fak_channel.specs.declared.standing.Wish.TheVariants.{Receive, Send};
-ghost use Rattle.fak_channel.specs.ChannelSteps.{KeepsAwake};
+ghost use Rattle.fak_channel.specs.declared.undealt.UndealtSeats.{UndealtSeats};
+ghost use Rattle.fak_channel.specs.ChannelSteps.{KeepsAwake, StandsAfter, Steps};
 ghost use Rattle.fak_channel.specs.EndsAtRest.{AllEndsRest, EndSleeps, RestsAs};
+ghost use Rattle.fak_channel.specs.Marks.{end_in_of, end_out_of};
 ghost use Rattle.fak_channel.specs.Moves.{Moves};
-ghost use Rattle.fak_channel.specs.Standings.{IsBetweenCalls, IsStepSeatOf, role_of};
+ghost use Rattle.fak_channel.specs.Standings.{IsBetweenCalls, IsInCall, IsSeatOf, IsStepSeatOf, role_of};
+ghost use Rattle.fak_channel.specs.Undealt.{AreUndealt, fresh_channel_seat};
 
 use fak_queue::laws::sleepers::no_seat_sleeps_beside_work;
 
@@ -37,6 +42,31 @@ pub fn an_end_that_waits_owes_nothing<T>()
 pub fn an_end_that_sleeps_on_finds_its_bit_set<T>()
     ensures { (c : Channel T) (w : Wish T) (old new : ChannelSeat T) → old.standing.next ≡ Sleeping w → Moves c old new Sleeps
         → new.queue.notes ≡ note_of (as_role (role_of w) (FindsBit old.queue.seat.name true)) old.queue ∷ old.queue.notes }
+{}
+
+/// What any step of an open call does: its seat still belongs to the channel, the call has come further, and it is open, sleeps or
+/// has ended as the step says. So this also holds of the seats between the steps of one `Channel::steps` (`Runs`).
+pub fn a_step_goes_on_with_its_call<T>()
+    ensures stands { (c : Channel T) (old new : ChannelSeat T) (s : ChannelStep T) → IsStepSeatOf c old → Moves c old new s
+        → IsStepSeatOf c new }
+    ensures after { (c : Channel T) (old new : ChannelSeat T) (s : ChannelStep T) → IsInCall old → Moves c old new s
+        → StandsAfter new s }
+    ensures call { (c : Channel T) (old new : ChannelSeat T) (s : ChannelStep T) → IsStepSeatOf c old → Moves c old new s
+        → Steps c.queue.size old new s }
+{}
+
+/// A seat that is dealt (`UndealtSeats::next`) belongs to its channel, and is between two calls.
+pub fn a_dealt_seat_belongs_to_its_channel<T>()
+    ensures { (c : Channel T) (stint name left : ℕ) (undealt : UndealtSeats T) → AreUndealt c stint name left undealt
+        → IsSeatOf c (fresh_channel_seat c stint name) }
+{}
+
+/// In a drained channel no granted call is open on the queue: each insertion and each deletion that was claimed has ended.
+pub fn a_drained_channel_has_no_granted_call<T>()
+    ensures insertions { (size : ℕ) (h : List (Mark T)) → IsQueueHistory size h → IsDrained h
+        → count end_in_of h ≡ count claim_in_of h }
+    ensures deletions { (size : ℕ) (h : List (Mark T)) → IsQueueHistory size h → IsDrained h
+        → count end_out_of h ≡ count claim_out_of h }
 {}
 
 /// A try sets no bit of its own at any step, so it never sleeps.
