@@ -44,8 +44,9 @@ pub fn an_end_that_sleeps_on_finds_its_bit_set<T>()
         → new.queue.notes ≡ note_of (as_role (role_of w) (FindsBit old.queue.seat.name true)) old.queue ∷ old.queue.notes }
 {}
 
-/// What any step of an open call does: its seat still belongs to the channel, the call has come further, and it is open, sleeps or
-/// has ended as the step says. So this also holds of the seats between the steps of one `Channel::steps` (`Runs`).
+/// After any step of an open call its seat belongs to the channel, and the call is open, sleeps or has ended as the step says. How far
+/// it has come since it began follows from how far it had come before (`Steps`). So this also holds of the seats between the steps of
+/// one `Channel::steps` (`Runs`).
 pub fn a_step_goes_on_with_its_call<T>()
     ensures stands { (c : Channel T) (old new : ChannelSeat T) (s : ChannelStep T) → IsStepSeatOf c old → Moves c old new s
         → IsStepSeatOf c new }
