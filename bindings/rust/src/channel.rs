@@ -110,7 +110,7 @@ macro_rules! handles {
     ($($(#[$doc:meta])* $name:ident, $count:ident, $last:ident;)*) => {$(
         $(#[$doc])*
         ///
-        /// Threads may share it (`Sync`); each gets an end of its own by `clone`.
+        /// Threads may share it (`Sync`). A clone gets an end of its own if one is free; otherwise it shares one.
         pub struct $name<T> {
             lent: Arc<Lent<T>>,
         }
@@ -204,7 +204,7 @@ impl<T> Sender<T> {
         self.lent.send(item, Patience::Forever).map_err(SendError::of)
     }
 
-    /// Sends the item if there is a free cell. The thread does not sleep.
+    /// Sends the item if there is a free cell. The thread does not sleep for one. Tries of handles that share an end take turns.
     pub fn try_send(&self, item: T) -> Result<(), TrySendError<T>> {
         self.lent.send(item, Patience::Never).map_err(TrySendError::of)
     }
@@ -226,7 +226,7 @@ impl<T> Receiver<T> {
         self.lent.receive(Patience::Forever).map_err(RecvError::of)
     }
 
-    /// Receives the oldest item if there is one. The thread does not sleep.
+    /// Receives the oldest item if there is one. The thread does not sleep for one. Tries of handles that share an end take turns.
     pub fn try_recv(&self) -> Result<T, TryRecvError> {
         self.lent.receive(Patience::Never).map_err(TryRecvError::of)
     }

@@ -202,8 +202,9 @@ impl Seat {
         step(code, ticket)
     }
 
-    /// Leaves the queue to others for a while, if the seat has found that they use it too. It spins for some tens of microseconds, at most
-    /// once in some 100 calls. With the archive by `--backend rattle` it does nothing. Not for an interrupt or signal handler.
+    /// Leaves the queue to others for a while, if the seat has found that they use it too. It spins for some tens of microseconds, on
+    /// average at most once in some 100 tickets. With the archive by `--backend rattle` it does nothing. Not for an interrupt or signal
+    /// handler.
     pub fn pause(&mut self) {
         // A seat of a queue is not refused.
         unsafe { raw::fak_c_pause(&mut self.0) };

@@ -1,4 +1,5 @@
 //! The numbers that an object may be opened with. A call that opens is refused as `Fault::BadLimit` exactly if one of these is false.
+//! A `BoxSeat` is opened together with one more seat.
 
 /// The most seats of an object.
 pub const MOST_SEATS: usize = 1_024;

@@ -111,16 +111,16 @@ typedef struct fak_c_seat {
 enum {
     FAK_C_OK = 0,          /* the call was made */
     FAK_C_NOT_YET = 1,     /* the call stays open: try again */
-    FAK_C_FULL = 2,        /* the queue, or the room, had no room */
-    FAK_C_EMPTY = 3,       /* the queue had no item */
-    FAK_C_CLOSED = 4,      /* the queue was shut */
+    FAK_C_FULL = 2,        /* the queue, the channel or the room had no room */
+    FAK_C_EMPTY = 3,       /* the queue or the channel had no item */
+    FAK_C_CLOSED = 4,      /* the queue was shut, or the channel was closed */
     FAK_C_WORN = 5,        /* the seat has made all the calls of its stint */
     FAK_C_NO_SEAT = 6,     /* the handle has no seat of this kind of object */
     FAK_C_WRONG_STATE = 7, /* the seat is in another state than this call needs */
     FAK_C_BAD_LIMIT = 8,   /* a number is out of range */
     FAK_C_MEMORY = 9,      /* there was no memory */
     FAK_C_PARKS = 10,      /* the down parks its item: fak_c_sem_try_park is next */
-    FAK_C_WAKES = 11,      /* the up owes a wake: fak_c_sem_try_wake is next */
+    FAK_C_WAKES = 11,      /* the up owes a wake: fak_c_sem_try_wake is next; or a channel's end is to be woken (fak_channel.h) */
     FAK_C_BUSY = 12,       /* others hold the file table, or try to; or all ends of a shared channel are lent */
     FAK_C_SLEEPS = 13,     /* the call of a channel's end stays open, and sleeps (fak_channel.h) */
     FAK_C_GAVE_UP = 14     /* the call of a channel's end was given up */
@@ -264,11 +264,12 @@ static inline int32_t fak_c_get(fak_c_seat *seat, uint64_t *ticket, uint64_t *it
     return fak_c_delete(seat, ticket ? ticket : &unused, item);
 }
 
-/* Leaves the queue to others for a while, if the seat has found since its last pause that others use the queue too. Threads that take
- * turns fetch each cache line from one another; while one pauses, another has the lines in its own cache. So call it between two calls
- * if the rate matters more than the longest time of a call, and not in a handler. It spins at most once in some 100 tickets, for some
- * tens of microseconds, and waits for nobody. In queues of fewer than 64 cells it does nothing. In the archive by `--backend rattle` it
- * does nothing in any queue: that compiler makes no code for a spin. No other call pauses. The seat may be in any state.
+/* Leaves the queue to others for a while, if the seat has found since its last pause that others use the queue too. Threads that take turns
+ * fetch each cache line from one another; while one pauses, another has the lines in its own cache. So call it between two calls if the
+ * rate matters more than the longest time of a call, and not in a handler. On average it spins at most once in some 100 tickets, for some
+ * tens of microseconds, and waits for nobody. After a long time without pauses a few may come closer together. In queues of fewer than 64
+ * cells it does nothing. In the archive by `--backend rattle` it does nothing in any queue: that compiler makes no code for a spin. No
+ * other call pauses. The seat may be in any state.
  *
  * FAK_C_OK or FAK_C_NO_SEAT. */
 int32_t fak_c_pause(fak_c_seat *seat);

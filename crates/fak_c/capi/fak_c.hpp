@@ -1,13 +1,16 @@
-/* The objects of fak_c.h for C++17: handles that own their seat, and calls with types. Nothing here throws, allocates or waits.
+/* The objects of fak_c.h for C++17: handles that own their seat, and calls with types. Nothing here throws or waits, and only
+ * `open` allocates.
  *
  * A handle is movable, also during a call, and cannot be copied. Its destructor leaves the object. While a call is open, or the seat
- * holds something of a room or a file table, leaving is refused; then the object is never freed. So end the call first.
+ * holds something of a room or a file table, leaving is refused; then the object is never freed, and the cell of an open call on a queue
+ * stays closed: seats that need it get Code::NotYet forever. So end the call first.
  *
- * Each call is that of fak_c.h, whose comment says which codes it returns. What C owes there is owed here too, except that the types
+ * Each call is that of fak_c.h, whose comment says which codes it returns. But `open` returns Code::WrongState before all others, if a
+ * handle has a seat. What C owes there is owed here too, except that the types
  * keep handles from being copied or written by hand. Never sleep on Code::Full, Code::Empty or Code::Busy: fak_c.h says why.
  *
- * An item is any trivially copyable type of at most 8 bytes: a number, an enum, a pointer, a small struct. What a pointer points
- * to stays with the program; pointers that are in an object when its last seat leaves are not followed. */
+ * An item is any trivially copyable type of at most 8 bytes that has a default constructor: a number, an enum, a pointer, a small struct.
+ * What a pointer points to stays with the program; pointers that are in an object when its last seat leaves are not followed. */
 #ifndef FAK_C_HPP
 #define FAK_C_HPP
 

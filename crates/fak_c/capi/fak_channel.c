@@ -409,6 +409,9 @@ int32_t fak_channel_shared_leave_with(
     /* The first two ends have called least, so one of them drops what is left. */
     for (size_t i = n; i-- > 0 && code == FAK_C_OK;)
         code = fak_channel_leave_with(&shared->ends[i], drop, context);
+    /* Later calls find nothing that is shared. */
+    if (code == FAK_C_OK)
+        shared->ends = shared->senders.ends = shared->receivers.ends = NULL;
     return code;
 }
 

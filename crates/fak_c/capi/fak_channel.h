@@ -25,7 +25,12 @@
  * channel is there after a call that returns FAK_C_CLOSED. fak_channel.c tells ThreadSanitizer so, for sends, receives and closes: as if
  * each send came before each later receive of the channel. A caller by steps tells it by FAK_C_GIVES and FAK_C_GETS (fak_c.h).
  *
+ * Which sleeper wakes up first is not promised, and a new caller may be faster than one that was woken, or waits for an end.
+ *
  * Never sleep on a refusal of a try by means of your own (fak_c.h): the calls below that sleep do it right.
+ *
+ * In a freestanding build of fak_channel.c there are no futexes: fak_channel_open_ends, fak_channel_shared_open and fak_channel_deadline
+ * are missing.
  *
  * What the calls use. Stack: below 768 bytes in a step; below 8,192 in fak_channel_open. The calls of ends and of a shared channel add
  * below 512 bytes. Heap: what "Sizes" below says; only calls that open allocate. Processor time: a sleeping thread uses none. Before it
@@ -114,7 +119,7 @@ typedef struct fak_channel_end {
  * sleep on futexes of Linux. An end may send and receive `stint` items (at least 1, and n times the stint is at most 2^50). A refused
  * call, one that gives up, and a close do not count. FAK_C_MOST_CALLS / n is the longest stint.
  *
- * FAK_C_OK; FAK_C_BAD_LIMIT or FAK_C_MEMORY, and the ends are empty; FAK_C_WRONG_STATE if an end has a seat. */
+ * FAK_C_OK; FAK_C_BAD_LIMIT, FAK_C_MEMORY, or FAK_C_WRONG_STATE if an end has a seat: then the ends stay as they were. */
 int32_t fak_channel_open_ends(fak_channel_end *ends, size_t n, uint64_t size, uint64_t stint);
 
 /* Moves a seat of fak_channel_open to an empty end, whose thread waits by `waiting`. All ends of a channel have the same, and use it until
@@ -159,8 +164,9 @@ int32_t fak_channel_close(fak_channel_end *end);
  * something, let `drop` free it: the last seat passes it each item that is left, oldest first. A null pointer drops nothing. If the stint
  * of the last seat runs out meanwhile, the remaining items are not passed.
  *
- * Only seats that leave as ends are counted, and the last one has to be an end that leaves with `drop`. So a seat that is called by steps
- * becomes an end before it leaves (fak_channel_end_of). If one leaves by fak_c_leave, no end drops anything: others may still receive.
+ * Items are dropped only if every seat leaves as an end, and the last one with `drop`. So a seat that is called by steps becomes an end
+ * before it leaves (fak_channel_end_of). If one leaves by fak_c_leave, no end drops anything, since others may still receive. Then the
+ * memory by which the ends of fak_channel_open_ends sleep is never freed.
  *
  * Leaving does not close, not even if no sender is left: receivers sleep on. Close first, as `Sender` of fak_channel.hpp and of the crate
  * for Rust does when the last one goes.
@@ -218,8 +224,8 @@ typedef struct fak_channel_shared {
 int32_t fak_channel_shared_open(
     fak_channel_shared *shared, fak_channel_end *ends, size_t senders, size_t receivers, uint64_t size, uint64_t stint);
 
-/* Shares the same number of ends of one open channel. The channel may have other ends. The ends may have been moved. Callers that wait
- * for an end park at the numbers of the first two.
+/* Shares FAK_CHANNEL_SHARED_ENDS(senders, receivers) ends of one open channel. The channel may have other ends. The ends may have been
+ * moved. Callers that wait for an end park at the numbers of the first two.
  *
  * FAK_C_OK; FAK_C_BAD_LIMIT; FAK_C_NO_SEAT if an end is empty. */
 int32_t fak_channel_shared_over(fak_channel_shared *shared, fak_channel_end *ends, size_t senders, size_t receivers);
@@ -246,8 +252,8 @@ int32_t fak_channel_shared_close(fak_channel_shared *shared);
 int32_t fak_channel_shared_len(fak_channel_shared *shared, uint64_t *items);
 int32_t fak_channel_shared_is_closed(fak_channel_shared *shared, bool *is_closed);
 
-/* Gives up all ends, once no thread is in a call, which a refusal as FAK_C_WRONG_STATE does not always find. If all other seats of the
- * channel have left as ends, what is left is dropped as by fak_channel_leave_with. Leaving does not close.
+/* Gives up all ends. Call it once no thread is in a call: FAK_C_WRONG_STATE does not find each of these. Later calls return FAK_C_NO_SEAT.
+ * If all other seats of the channel have left as ends, what is left is dropped as by fak_channel_leave_with. Leaving does not close.
  *
  * FAK_C_OK; FAK_C_NO_SEAT; FAK_C_WRONG_STATE if an end is lent, or has an open call by steps; FAK_C_BAD_LIMIT as fak_channel_leave_with. A
  * refused call gives up none. */
@@ -291,8 +297,8 @@ int32_t fak_channel_begin_close(fak_c_seat *end);
 /* Takes one more step of the open call.
  *
  * With the first three codes the call stays open:
- * - FAK_C_NOT_YET: it waits for a step of another end's open call. Yield the processor, and step again. A coroutine that only yields to
- *   others of its thread keeps the processor from the thread that has to step.
+ * - FAK_C_NOT_YET: it waits for a step of another end's open call, or has taken many steps, and has more to take. Yield the processor,
+ *   and step again. A coroutine that only yields to others of its thread keeps the processor from the thread that has to step.
  * - FAK_C_WAKES: wake the thread of the end of `number` now, and step again.
  * - FAK_C_SLEEPS: sleep until this end is woken, and step again. A step that finds no wake-up returns this code again. Nobody wakes a tried
  *   call: give it up, or step again to try once more.
@@ -326,8 +332,8 @@ int32_t fak_channel_state(fak_c_seat *end, uint64_t *number, uint32_t *state, ui
  * touches an end. So a runtime may lend by them what it likes, to callers that wait by means of its own.
  *
  * What C owes: each call is made under a lock of the lending, which no caller holds while it parks or wakes another. A caller that waits
- * parks, and then looks again. If a call writes that `wakes` is true, one of those that are parked is woken after the call, or the next one
- * to park. It does no harm if a caller looks again without having been woken.
+ * parks, and then looks again. If a call writes that `wakes` is true, one parked caller is woken after the call. If none is parked yet, the
+ * next park returns at once. It does no harm if a caller looks again without having been woken.
  *
  * Proved: whenever an end is idle, or all are worn, nobody waits, or a caller was woken and has not looked again yet. An end that is lent
  * was idle, and is not idle until it is given back. */
@@ -347,7 +353,8 @@ int32_t fak_channel_lending_borrow(fak_channel_lending *lending, bool may_wait, 
  * FAK_C_OK; FAK_C_WORN if all ends are worn; FAK_C_SLEEPS if the caller is in time, else FAK_C_GAVE_UP. */
 int32_t fak_channel_lending_look_again(fak_channel_lending *lending, bool in_time, uint64_t *number, bool *wakes);
 
-/* Gives back the end of this number, which is idle then; or retires it: it is worn, and nobody borrows it again.
+/* Gives back the end of this number, which is idle then; or retires it: it is worn, and nobody borrows it again. Each loan ends once, by
+ * one of these two calls: a second one may end the loan of another caller, or bring a worn end back.
  *
  * FAK_C_OK; FAK_C_WRONG_STATE if the end is idle, or there is none of this number: nothing changes then, and nothing is written. */
 int32_t fak_channel_lending_give_back(fak_channel_lending *lending, uint64_t number, bool *wakes);

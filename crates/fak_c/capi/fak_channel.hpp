@@ -1,7 +1,8 @@
 /* The channel of fak_channel.h for C++17, with typed items: ends, each for one thread, and senders and receivers that any number of
  * threads copy. Compile fak_channel.c, which is C, or link libfak_channel.a. Nothing here throws.
  *
- * An item is any trivially copyable type of at most 32 bytes, or a std::unique_ptr, which the channel owns until it is received. What is
+ * An item is any trivially copyable type of at most 32 bytes that has a default constructor, or a std::unique_ptr<T> or
+ * std::unique_ptr<T[]>, which the channel owns until it is received. What is
  * left in a channel when its last handle goes is deleted, unless this is an end that has used up its stint. A refused item stays with the
  * caller. Send a larger object, or one that owns something, as a std::unique_ptr.
  *
@@ -182,7 +183,7 @@ public:
     ChannelEnd(ChannelEnd &&other) noexcept { fak_channel_move(&other.end, &end); }
     ChannelEnd &operator=(ChannelEnd &&other) noexcept {
         if (this != &other) {
-            static_cast<void>(leave());
+            give_up();
             fak_channel_move(&other.end, &end);
         }
         return *this;
@@ -212,8 +213,12 @@ public:
         return {code, is_closed};
     }
 
-    /* Gives up the end, and does not close. The last one deletes what is left, as long as its stint lasts. */
-    Code leave() noexcept { return Code{fak_channel_leave_with(&end, details::drop<T>, nullptr)}; }
+    /* Gives up the end, and does not close. The last one deletes what is left, as long as its stint lasts, and if `seats` of a waiting of
+     * your own is not 0. */
+    Code leave() noexcept {
+        Code code{fak_channel_leave_with(&end, details::drop<T>, nullptr)};
+        return code == Code::BadLimit ? Code{fak_channel_leave(&end)} : code;
+    }
 
     /* Whether it owns a seat. */
     explicit operator bool() const noexcept { return end.seat.at != nullptr; }
@@ -232,6 +237,12 @@ private:
         return fak_channel_receive_until(&end, packed, deadline);
     }
     std::int32_t try_receive_packed(fak_channel_item *packed) noexcept { return fak_channel_try_receive(&end, packed); }
+
+    /* An end in a call by steps can't leave. It is abandoned, and its channel with it. */
+    void give_up() noexcept {
+        if (leave() == Code::WrongState)
+            end = fak_channel_end{};
+    }
 
     fak_channel_end end{};
 };

@@ -110,10 +110,15 @@ static void finish(fak_pool *self) {
  * these itself. */
 static bool take_permit(fak_pool *self, bool tries) {
     fak_channel_item item;
-    if (count_up(&self->permit_count))
-        return true;
-    return (tries ? fak_channel_shared_try_receive(&self->permits.shared, &item)
-                  : fak_channel_shared_receive(&self->permits.shared, &item)) == FAK_C_OK;
+    int32_t code;
+    do {
+        if (count_up(&self->permit_count))
+            return true;
+        code = tries ? fak_channel_shared_try_receive(&self->permits.shared, &item)
+                     : fak_channel_shared_receive(&self->permits.shared, &item);
+        /* A resize misses a permit that a worker is giving back. So this must follow the receive: such a permit is taken away here. */
+    } while (code == FAK_C_OK && count_down(&self->permit_count));
+    return code == FAK_C_OK;
 }
 
 /* Gives a permit back, unless there are too many. The channel has a cell for each. */

@@ -1,6 +1,7 @@
 /* A pool of threads that run jobs: an example of a program over the channel (fak_channel.h), to be copied and changed. Any thread may call
  * it. A job may too, except that it neither joins nor frees its own pool. A job that adds to a full queue of its own pool sleeps until
- * another worker takes a job. Each job runs once, and jobs start in the order in which they were added. */
+ * another worker takes a job. Each job runs once. Workers take jobs in the order in which they were added, but of two jobs that were taken
+ * the later one may start first. */
 #ifndef FAK_POOL_H
 #define FAK_POOL_H
 
@@ -34,13 +35,14 @@ bool fak_pool_try_add(fak_pool *self, fak_pool_function *run, void *argument);
 void fak_pool_join(fak_pool *self);
 
 /* From now on `workers` threads run jobs. It doesn't wait for those that have to stop: they end their jobs first. False if the number is
- * out of range, or there is no memory or no thread: then there are at least as many workers as before, and at most as many as asked for. */
+ * out of range, and nothing changes; or if there is no memory or no thread. Then there are at least as many workers as before, and at most
+ * as many as asked for. */
 bool fak_pool_resize(fak_pool *self, size_t workers);
 
 /* Frees the pool once each job that was added is done. Meanwhile only its jobs may call it, and afterwards nobody. NULL is allowed. */
 void fak_pool_free(fak_pool *self);
 
-/* The bytes of the pool itself, without what its two channels keep (fak_channel.h): 96 for each job that may wait, and below 250,000. */
+/* The bytes of the pool itself. Its two channels (fak_channel.h) keep 96 for each job that may wait, and below 250,000 more. */
 size_t fak_pool_bytes(const fak_pool *self);
 
 #ifdef __cplusplus

@@ -163,6 +163,19 @@ static void all_ends_leave_or_none(void) {
     }
 }
 
+/* Once all ends have left, calls are refused, also while others are being refused. */
+static void a_shared_channel_that_was_left_refuses(void) {
+    fak_channel_end ends[SHARED] = {0};
+    fak_channel_shared shared = {0};
+    fak_channel_item item = seven;
+    uint64_t items = 0;
+    CHECK(fak_channel_shared_open(&shared, ends, SENDERS, RECEIVERS, 2, STINT) == FAK_C_OK);
+    CHECK(fak_channel_shared_leave(&shared) == FAK_C_OK);
+    shared.closes = shared.looks = shared.senders.lock = shared.receivers.lock = 1;
+    CHECK(fak_channel_shared_close(&shared) == FAK_C_NO_SEAT && fak_channel_shared_len(&shared, &items) == FAK_C_NO_SEAT);
+    CHECK(fak_channel_shared_try_send(&shared, &item) == FAK_C_NO_SEAT && fak_channel_shared_receive(&shared, &item) == FAK_C_NO_SEAT);
+}
+
 /* Borrows the only end of a lender, or the first of several, as if a thread had it. */
 static void borrow_first(fak_channel_lender *lender) {
     uint64_t number = 99;
@@ -257,6 +270,7 @@ static void worn_ends_are_put_aside(void) {
 
 void shared_ends_are_lent(void) {
     all_ends_leave_or_none();
+    a_shared_channel_that_was_left_refuses();
     ends_are_lent_once();
     lenders_call_own_functions();
     worn_ends_are_put_aside();

@@ -140,6 +140,42 @@ static void ends_own_their_items() {
     CHECK(Counted::live == 0);
 }
 
+/* The seats of a channel whose ends wait by functions of the program's own. */
+static void open_own(fak_channel_waiting &waiting, fak::ChannelEnd<int> (&ends)[2]) {
+    fak_c_seat seats[2]{};
+    waiting.park = [](void *, std::uint64_t, std::uint64_t) { return true; };
+    waiting.unpark = [](void *, std::uint64_t) {};
+    CHECK(fak_channel_open(seats, 2, 2, 100) == FAK_C_OK);
+    for (int i = 0; i < 2; i++)
+        CHECK(fak_channel_end_of(&seats[i], &waiting, ends[i].get_end()) == FAK_C_OK);
+}
+
+/* Such an end leaves, although nobody has said how many seats there are. */
+static void ends_of_an_own_waiting_leave() {
+    fak_channel_waiting waiting{};
+    {
+        fak::ChannelEnd<int> ends[2];
+        open_own(waiting, ends);
+        CHECK(waiting.ends == 2 && ends[0].send(7) == Code::Ok && ends[1].receive().value == 7);
+        CHECK(ends[0].leave() == Code::Ok && !ends[0] && waiting.ends == 1);
+    }
+    CHECK(waiting.ends == 0);
+}
+
+static void *volatile abandoned; /* since it is known here, the address sanitizer finds no leak */
+
+/* An assignment to an end in a call by steps abandons it, and moves the other. */
+static void an_end_in_a_call_is_abandoned() {
+    fak_channel_waiting waiting{};
+    fak::ChannelEnd<int> ends[2], others[2];
+    open_own(waiting, ends);
+    CHECK(fak::ChannelEnd<int>::open(others, 2, 100) == Code::Ok);
+    CHECK(fak_channel_begin_receive(&ends[0].get_end()->seat) == FAK_C_OK && ends[0].leave() == Code::WrongState);
+    abandoned = ends[0].get_end()->seat.at;
+    ends[0] = std::move(others[0]);
+    CHECK(ends[0] && !others[0] && ends[0].send(7) == Code::Ok && others[1].receive().value == 7 && waiting.ends == 2);
+}
+
 static void ends_wait_until_a_time() {
     std::vector<fak::ChannelEnd<int>> ends(1), none;
     CHECK(fak::ChannelEnd<int>::open(none, 1, 100) == Code::BadLimit);
@@ -269,6 +305,8 @@ int main(int count, char **words) {
     bytes_between_members_are_0();
     arrays_pass();
     ends_own_their_items();
+    ends_of_an_own_waiting_leave();
+    an_end_in_a_call_is_abandoned();
     ends_wait_until_a_time();
     parties_own_the_channel();
     threads_share_a_channel(items);

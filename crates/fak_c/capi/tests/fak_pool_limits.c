@@ -24,6 +24,25 @@ static void fail(long number) {
     made = 0;
 }
 
+/* ---- A send that comes late ---- */
+
+int32_t __real_fak_channel_shared_send(fak_channel_shared *shared, const fak_channel_item *item);
+int32_t __wrap_fak_channel_shared_send(fak_channel_shared *shared, const fak_channel_item *item);
+
+/* The channel whose next send waits, and whether it does. */
+static _Atomic(fak_channel_shared *) held;
+static atomic_bool is_held;
+
+int32_t __wrap_fak_channel_shared_send(fak_channel_shared *shared, const fak_channel_item *item) {
+    fak_channel_shared *wanted = shared;
+    if (atomic_compare_exchange_strong(&held, &wanted, NULL)) {
+        atomic_store(&is_held, true);
+        while (atomic_load(&is_held))
+            sched_yield();
+    }
+    return __real_fak_channel_shared_send(shared, item);
+}
+
 /* ---- Jobs ---- */
 
 static atomic_ulong done;
@@ -159,8 +178,43 @@ static void a_try_never_sleeps(size_t waiting) {
     CHECK(atomic_load(&done) == 1);
 }
 
+static void await(atomic_bool *flag) {
+    for (int rests = 0; !atomic_load(flag); rests++) {
+        CHECK(rests < 20000); /* above 20 seconds */
+        rest();
+    }
+}
+
+static void stay_until(void *flag) {
+    await(flag);
+}
+
+/* Without a queue no job waits, although a resize comes while a worker that has ended its job gives its permit back. */
+static void a_late_permit_is_taken_away(void) {
+    fak_pool *pool = fak_pool_create(2, 0);
+    atomic_bool may_end[2] = {false, false};
+    uint64_t permits = 0;
+    CHECK(pool != NULL);
+    for (int i = 0; i < 2; i++)
+        CHECK(fak_pool_add(pool, stay_until, &may_end[i]));
+    atomic_store(&held, &pool->permits.shared);
+    atomic_store(&may_end[0], true);
+    await(&is_held);
+    CHECK(fak_pool_resize(pool, 1));
+    atomic_store(&is_held, false);
+    while (fak_channel_shared_len(&pool->permits.shared, &permits) == FAK_C_OK && permits == 0)
+        rest();
+    CHECK(permits == 1 && !fak_pool_try_add(pool, count_one, NULL));
+    atomic_store(&may_end[1], true);
+    fak_pool_join(pool);
+    CHECK(run_at_once(pool, 1) && fak_pool_resize(pool, 2) && run_at_once(pool, 2));
+    fak_pool_free(pool);
+    CHECK(live == 0);
+}
+
 int main(void) {
     alarm(280); /* what hangs fails */
+    a_late_permit_is_taken_away();
     for (size_t waiting = 0; waiting <= 9; waiting += 9) {
         creations_fail_in_turn(waiting);
         resizes_fail_in_turn(waiting);
