@@ -4,9 +4,10 @@
 #   fak_c::source    as fak_c::fak_c, but the channel is compiled with the program, so that a sanitizer sees it. The project needs the
 #                    language C: project(NAME C CXX)
 #   fak_c::no_heap   only the first archive; the program brings rattle_alloc, rattle_realloc and rattle_dealloc, for instance block.c
+#   fak_c::rattle_no_heap   only the second archive, likewise
 # and FAK_C_BLOCK and FAK_C_CHANNEL, the paths of block.c and fak_channel.c. A project without C ignores such a source.
 include(CMakeFindDependencyMacro)
-# A kernel has no threads of a C library, and links fak_c::no_heap.
+# A kernel has no threads of a C library, and links fak_c::rattle_no_heap.
 if(NOT CMAKE_SYSTEM_NAME STREQUAL "Generic")
     find_dependency(Threads)
 endif()
@@ -25,6 +26,7 @@ if(NOT TARGET fak_c::fak_c)
     _fak_c_add(rattle "${_fak_c_prefix}/lib/libfak_channel.a" "${_fak_c_prefix}/lib/libfak_c_rattle.a"
         "${_fak_c_prefix}/lib/libfak_c_heap.a" Threads::Threads)
     _fak_c_add(no_heap "${_fak_c_prefix}/lib/libfak_c.a")
+    _fak_c_add(rattle_no_heap "${_fak_c_prefix}/lib/libfak_c_rattle.a")
     get_property(_fak_c_languages GLOBAL PROPERTY ENABLED_LANGUAGES)
     list(FIND _fak_c_languages C _fak_c_language)
     if(NOT _fak_c_language EQUAL -1)

@@ -99,9 +99,9 @@ END
         $(outside pkg-config --cflags --libs fak_c) -pthread -o "$out/by_pool" && adds_up "$out/by_pool"
 }
 
-# A queue in memory of the program's own, with no heap and next to one.
-by_block() {
-    cat > "$out/block_user.c" <<'END'
+# Writes a program with a queue in memory of its own.
+write_block_user() {
+    cat > "$1/block_user.c" <<'END'
 #include "block.h"
 #include "fak_c.h"
 static _Alignas(16) unsigned char block[FAK_C_QUEUE_BYTES(1, 4)];
@@ -115,6 +115,11 @@ int main(void) {
     return fak_c_block_is_free(block) || fak_c_leave(&seat) != FAK_C_OK || !fak_c_block_is_free(block);
 }
 END
+}
+
+# This program with no heap and next to one.
+by_block() {
+    write_block_user "$out" || return
     block=$(outside pkg-config --variable=block fak_c)
     outside cc -std=c11 -O2 $(outside pkg-config --cflags fak_c) "$out/block_user.c" "$block" "$prefix/lib/libfak_c.a" \
         -o "$out/block_user" && outside "$out/block_user" || return
@@ -167,6 +172,15 @@ by_cmake() {
         && adds_up "$out/cpp/build/example"
 }
 
+# The program with memory of its own, over this target of the CMake package, for a system without threads.
+by_cmake_alone() {
+    rm -rf "$out/alone" && mkdir "$out/alone" && write_block_user "$out/alone" || return
+    printf '%s\n' 'cmake_minimum_required(VERSION 3.13)' 'project(example C)' 'find_package(fak_c REQUIRED)' \
+        'add_executable(example block_user.c ${FAK_C_BLOCK})' "target_link_libraries(example fak_c::$1)" > "$out/alone/CMakeLists.txt"
+    outside cmake -S "$out/alone" -B "$out/alone/build" -DCMAKE_PREFIX_PATH="$prefix" -DCMAKE_SYSTEM_NAME=Generic \
+        && outside cmake --build "$out/alone/build" && "$out/alone/build/example"
+}
+
 # A later version than the installed one is not found.
 is_refused_by_version() {
     mkdir "$out/version"
@@ -208,6 +222,8 @@ check_cpp() {
     has cmake 'C++ by CMake' 'Debian: apt-get install cmake' || return
     holds 'C++ by CMake' by_cmake fak_c
     holds "C++ by CMake, Rattle's own compiler" by_cmake rattle
+    holds 'C by CMake without a heap' by_cmake_alone no_heap
+    holds "C by CMake without a heap, Rattle's own compiler" by_cmake_alone rattle_no_heap
     holds 'CMake and another version' is_refused_by_version
     holds 'CMake and threads' brings_threads
     holds 'CMake and the source of the channel' brings_source
