@@ -436,7 +436,8 @@ void a_cancelled_call_ends_first(void) {
 
 /* ---- Turns ---- */
 
-static atomic_ullong turn, done;
+/* The present round and the last one, and how many sends are done. */
+static atomic_ullong turn, last_turn, done;
 /* The lending whose borrowers stay for some time, and how many of them are in. */
 static fak_channel_lending *_Atomic watched;
 static atomic_int inside;
@@ -457,23 +458,17 @@ int32_t __wrap_fak_channel_lending_borrow(fak_channel_lending *lending, bool may
     return code;
 }
 
-typedef struct {
-    pthread_t thread;
-    fak_channel_shared *shared;
-    uint64_t rounds;
-} turner;
-
 /* Sends once in each round, as soon as it begins. */
-static void *send_each_turn(void *argument) {
-    turner *self = argument;
-    for (uint64_t round = 1; round <= self->rounds; round++) {
+static void *send_each_turn(void *shared) {
+    for (uint64_t round = 1;; round++) {
         for (int looks = 0; atomic_load(&turn) < round; looks++)
             if (looks > 10000)
                 sched_yield();
-        send_one(self->shared);
+        if (round > atomic_load(&last_turn))
+            return NULL;
+        send_one(shared);
         atomic_fetch_add(&done, 1);
     }
-    return NULL;
 }
 
 /* Borrows the first of these ends, all but the last, as if other threads had them; or gives them back. */
@@ -485,31 +480,33 @@ static void lend_others(fak_channel_lender *lender, bool borrows) {
                        : fak_channel_lending_give_back(&lender->lending, i, &wakes)) == FAK_C_OK && !wakes);
 }
 
-/* Two callers share the last end of these. */
+/* Two callers share the last end of these. On a busy machine, where each yield takes long, there are fewer rounds: the time is bounded. */
 static void take_turns(size_t senders, uint64_t rounds) {
     static fak_channel_end ends[FAK_CHANNEL_SHARED_ENDS(65, 1)];
     fak_channel_shared shared = {0};
-    turner turners[2];
+    uint64_t enough = fak_channel_deadline(UINT64_C(10000000000)), round = 0;
+    pthread_t turners[2];
     CHECK(fak_channel_shared_open(&shared, ends, senders, 1, CELLS, LONG_STINT) == FAK_C_OK);
     lend_others(&shared.senders, true);
     atomic_store(&watched, &shared.senders.lending);
     atomic_store(&turn, 0);
+    atomic_store(&last_turn, UINT64_MAX);
     atomic_store(&done, 0);
-    for (int i = 0; i < 2; i++) {
-        turners[i] = (turner){.shared = &shared, .rounds = rounds};
-        CHECK(pthread_create(&turners[i].thread, NULL, send_each_turn, &turners[i]) == 0);
-    }
-    for (uint64_t round = 1; round <= rounds; round++) {
+    for (int i = 0; i < 2; i++)
+        CHECK(pthread_create(&turners[i], NULL, send_each_turn, &shared) == 0);
+    while (round < rounds && fak_channel_deadline(0) < enough) {
         uint64_t late = fak_channel_deadline(UINT64_C(30000000000));
-        atomic_store(&turn, round);
+        atomic_store(&turn, ++round);
         for (int looks = 0; atomic_load(&done) < 2 * round; looks++)
             if (looks > 10000)
                 CHECK(sched_yield() == 0 && fak_channel_deadline(0) < late);
         for (int i = 0; i < 2; i++)
             end_one(&shared, true);
     }
+    atomic_store(&last_turn, round);
+    atomic_store(&turn, UINT64_MAX);
     for (int i = 0; i < 2; i++)
-        CHECK(pthread_join(turners[i].thread, NULL) == 0);
+        CHECK(pthread_join(turners[i], NULL) == 0);
     atomic_store(&watched, NULL);
     lend_others(&shared.senders, false);
     CHECK(fak_channel_shared_leave(&shared) == FAK_C_OK);
